@@ -1,0 +1,14 @@
+-- The two numbers of a shape.
+use Rattle.std.specs.Prelude.{ℕ, ◌≤◌}
+
+-- the depth of the tree over a row's columns, and how many positions a word has
+pub record Dims : Type 0 where
+  pub depth : ℕ
+  pub probes : ℕ
+
+-- the ranges: a row has 256 to 2,048 columns, and a word 1 to 8 positions
+pub record IsDims (d : Dims) : Type 0 where
+  pub low : 8 ≤ d.depth
+  pub high : d.depth ≤ 11
+  pub some : 1 ≤ d.probes
+  pub few : d.probes ≤ 8

@@ -1,0 +1,13 @@
+pub mod Dims
+pub mod TagBytes
+pub mod Xor
+pub mod Packed
+pub mod History
+pub mod Table
+pub mod Sum
+pub mod PointPair
+pub mod Sealed
+pub mod Words
+pub mod WordKept
+pub mod TableMeaning
+pub mod Texts
