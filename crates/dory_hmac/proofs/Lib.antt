@@ -1,0 +1,5 @@
+pub mod EachTag
+pub mod LaneLemmas
+pub mod ShortMessage
+pub mod Tag
+pub mod Vectors

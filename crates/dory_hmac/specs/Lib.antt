@@ -1,0 +1,5 @@
+pub mod FolderKeys
+pub mod Hmac
+pub mod Holds
+pub mod Lanes
+pub mod Midstate
