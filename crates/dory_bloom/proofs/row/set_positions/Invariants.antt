@@ -1,0 +1,11 @@
+use Rattle.std.proofs.Common.{◌≡◌, ℕ, ◌<◌, ◌^◌, ◌||◌, false, length, get_or, take}
+use Rattle.dory_hmac.specs.Hmac.{hmac_of_block}
+use Rattle.dory_bloom.specs.Positions.{columns_of}
+use Rattle.dory_bloom.specs.PlainRow.{is_among}
+use Rattle.dory_bloom.proofs.row.set_positions.Given as goal
+
+abbrev pub invariant-loop-p : goal.invariant-loop-p
+invariant-loop-p l = record {
+  len : length l.row ≡ 2 ^ l.fn.shape.depth;
+  bits : (j : ℕ) → j < 2 ^ l.fn.shape.depth → get_or l.row j false ≡ (get_or l.fn.row j false || is_among j (take l.p (columns_of (hmac_of_block l.word_key l.word) l.fn.shape)));
+}

@@ -1,0 +1,3 @@
+pub mod PlainRow
+pub mod Positions
+pub mod Recent
