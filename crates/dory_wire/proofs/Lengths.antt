@@ -1,0 +1,119 @@
+-- How long messages are, and that an encoder's frame is read back.
+use Rattle.std.proofs.Common.{◌≡◌, ◌∙◌, ℕ, suc, ◌*◌, ◌≤◌, List, [], ◌∷◌, ◌++◌, length, Some, Result, Ok, Err, refl, ap, arith}
+use Rattle.std.specs.Prelude.{IfOk}
+use Rattle.std.specs.Global.{Vec}
+use Rattle.std.specs.List.{flat_map, AllByRecursion}
+use Rattle.std.specs.Int.{w16, to_be_bytes}
+use Rattle.std.proofs.lemmas.List.{length-append}
+use Rattle.std.proofs.lemmas.List.Concat.{flat_map-cons}
+use Rattle.dory_base.specs.TagBytes.{tag_bytes}
+use Rattle.dory_base.specs.declared.found.Place.{Place}
+use Rattle.dory_base.specs.declared.found.Sum.{Sum}
+use Rattle.dory_base.specs.declared.found.Found.{Found}
+use Rattle.dory_base.specs.declared.refusal.Refusal.{Refusal}
+use Rattle.dory_base.specs.declared.refusal.Refusal.TheVariants.{NoFolder, ShapeWrong, Unretained, BadMember, Past, Clash, Unfinished, Unstaged, Taken, Gap, WrongRole, HistoryFull, NoEntry, NoMemory}
+use Rattle.dory_wire.specs.declared.message.Want.{Want}
+use Rattle.dory_wire.specs.declared.message.Want.TheVariants.{Latest, Search}
+use Rattle.dory_wire.specs.declared.message.What.{What}
+use Rattle.dory_wire.specs.declared.message.What.TheVariants.{At, Found as Finds, Refused}
+use Rattle.dory_wire.specs.declared.message.Request.{Request}
+use Rattle.dory_wire.specs.declared.message.Reply.{Reply}
+use Rattle.dory_wire.specs.Frame.{frame_of}
+use Rattle.dory_wire.specs.Spelling.{ask, four, packed, line, sum, found, refusal, want, what, spelling_of_request, spelling_of_reply, IsSum, IsFound, IsWant, IsWhat, IsRequest, IsReply}
+use Rattle.dory_wire.specs.Reading.{request_in, request_or_none, reply_in, reply_or_none, if_read}
+use Rattle.dory_wire.proofs.Packing.{length-packed}
+use Rattle.dory_wire.proofs.Holding.{length-tag_bytes}
+use Rattle.dory_wire.proofs.FrameLaws.{message_in_frame}
+use Rattle.dory_wire.proofs.RequestLaws.{read_again_request}
+use Rattle.dory_wire.proofs.ReplyLaws.{read_again_reply}
+
+length-columns : (cs : List ℕ) → length (flat_map (to_be_bytes w16) cs) ≡ 2 * length cs
+length-columns [] = refl
+length-columns (c ∷ cs) = ap length (flat_map-cons (to_be_bytes w16) c cs) ∙ omega (arith, length-append (to_be_bytes w16 c) (flat_map (to_be_bytes w16) cs), length-columns cs)
+
+length-line : (p : Place) → length (line p) ≡ 18
+length-line p = refl
+
+length-lines : (ps : List Place) → length (flat_map line ps) ≡ 18 * length ps
+length-lines [] = refl
+length-lines (p ∷ ps) = ap length (flat_map-cons line p ps) ∙ omega (arith, length-append (line p) (flat_map line ps), length-line p, length-lines ps)
+
+short_sum : (n : ℕ) (s : Sum) → n ≤ 4096 → IsSum n s → length (sum s) ≤ 528
+short_sum n s few is = omega (arith, length-append (packed s.bits) (tag_bytes s.tag), length-packed s.bits, length-tag_bytes s.tag, is.bits)
+
+short_sums : (n : ℕ) (ss : List Sum) → n ≤ 4096 → AllByRecursion (IsSum n) ss → length (flat_map sum ss) ≤ 528 * length ss
+short_sums n [] few are = omega arith
+short_sums n (s ∷ ss) few are =
+    let e : length (flat_map sum (s ∷ ss)) ≡ length (sum s ++ flat_map sum ss) = ap length (flat_map-cons sum s ss) in
+    omega (arith, e, length-append (sum s) (flat_map sum ss), short_sum n s few are.0, short_sums n ss few are.1)
+
+short_found : (f : Found) → IsFound f → length (found f) ≤ 90000
+short_found f is =
+    let rest = length f.sums ∷ flat_map sum f.sums in
+    let lines = flat_map line f.manifest in
+    let front = four f.version ++ to_be_bytes w16 (length f.manifest) in
+    let tail : length rest ≡ suc (length (flat_map sum f.sums)) = refl in
+    let six : length front ≡ 6 = refl in
+    omega (arith, length-append (front ++ lines) rest, length-append front lines, six, tail, length-lines f.manifest, short_sums (length f.manifest) f.sums is.many is.sums, is.many, is.probes)
+
+short_refusal : (r : Refusal) → length (refusal r) ≤ 9
+short_refusal NoFolder = omega arith
+short_refusal (ShapeWrong depth probes) = omega arith
+short_refusal (Unretained oldest newest) = omega arith
+short_refusal (BadMember member) = omega arith
+short_refusal (Past last) = omega arith
+short_refusal (Clash id) = omega arith
+short_refusal (Unfinished id) = omega arith
+short_refusal (Unstaged id) = omega arith
+short_refusal (Taken number id) = omega arith
+short_refusal (Gap length) = omega arith
+short_refusal (WrongRole role) = omega arith
+short_refusal HistoryFull = omega arith
+short_refusal (NoEntry length) = omega arith
+short_refusal NoMemory = omega arith
+
+short_what : (w : What) → IsWhat w → length (what w) ≤ 90000
+short_what (At length) is = omega arith
+short_what (Finds f) is = short_found f is
+short_what (Refused code) is = omega (arith, short_refusal code)
+
+short_want : (w : Want) → IsWant w → length (want w) ≤ 90000
+short_want Latest is = omega arith
+short_want (Search version shape keys) is = omega (arith, length-columns keys, is.2.many, is.1.few)
+
+-- a message's length is that of a frame
+pub request_short : (r : Request) → IsRequest r → length (spelling_of_request r) ≤ 1048576
+unfolding spelling_of_request
+request_short r is =
+    let front = ask r.ask ++ four r.folder.0 in
+    let twenty : length front ≡ 20 = refl in
+    omega (arith, length-append front (want r.want), twenty, short_want r.want is.want)
+
+pub reply_short : (r : Reply) → IsReply r → length (spelling_of_reply r) ≤ 1048576
+unfolding spelling_of_reply
+reply_short r is =
+    let sixteen : length (ask r.ask) ≡ 16 = refl in
+    omega (arith, length-append (ask r.ask) (what r.what), sixteen, short_what r.what is.what)
+
+request_some : (r : Request) → 1 ≤ length (spelling_of_request r)
+unfolding spelling_of_request
+request_some r = omega arith
+
+reply_some : (r : Reply) → 1 ≤ length (spelling_of_reply r)
+unfolding spelling_of_reply
+reply_some r = omega arith
+
+pub request_read_back : (r : Request) → IsRequest r → request_in (frame_of (spelling_of_request r)) ≡ Some r
+request_read_back r is = ap request_or_none (message_in_frame (spelling_of_request r) (request_some r) (request_short r is)) ∙ ap if_read (read_again_request r is)
+
+pub reply_read_back : (r : Reply) → IsReply r → reply_in (frame_of (spelling_of_reply r)) ≡ Some r
+reply_read_back r is = ap reply_or_none (message_in_frame (spelling_of_reply r) (reply_some r) (reply_short r is)) ∙ ap if_read (read_again_reply r is)
+
+-- so is what a call gives that gives the frame
+pub request_reads : {E : Type 0} (m : List ℕ) (r : Request) (result : Result (Vec ℕ) E) → m ≡ spelling_of_request r → IsRequest r → IfOk result (λ f. f.items ≡ frame_of m) → IfOk result (λ f. request_in f.items ≡ Some r)
+request_reads m r (Ok f) spelled is given = ap request_in given ∙ ap (λ (x : List ℕ). request_in (frame_of x)) spelled ∙ request_read_back r is
+request_reads m r (Err e) spelled is given = tt
+
+pub reply_reads : {E : Type 0} (m : List ℕ) (r : Reply) (result : Result (Vec ℕ) E) → m ≡ spelling_of_reply r → IsReply r → IfOk result (λ f. f.items ≡ frame_of m) → IfOk result (λ f. reply_in f.items ≡ Some r)
+reply_reads m r (Ok f) spelled is given = ap reply_in given ∙ ap (λ (x : List ℕ). reply_in (frame_of x)) spelled ∙ reply_read_back r is
+reply_reads m r (Err e) spelled is given = tt

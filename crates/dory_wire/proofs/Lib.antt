@@ -1,0 +1,11 @@
+pub mod Unpacking
+pub mod Loops
+pub mod Fields
+pub mod Lines
+pub mod Packing
+pub mod Holding
+pub mod Ranges
+pub mod RequestLaws
+pub mod ReplyLaws
+pub mod FrameLaws
+pub mod Lengths

@@ -1,0 +1,102 @@
+-- Reading fields of one kind one after the other, as a loop does.
+use Rattle.std.proofs.Common.{◌≡◌, ℕ, suc, ◌-◌, ◌+◌, ◌≤◌, ◌<◌, List, [], ◌∷◌, ◌++◌, Result, Ok, Err, refl, sym, ap, ◌∙◌, append_assoc, arith}
+use Rattle.std.specs.Int.{w16}
+use Rattle.std.proofs.lemmas.List.{append-nil}
+use Rattle.dory_base.specs.declared.found.Place.{Place}
+use Rattle.dory_base.specs.declared.found.Sum.{Sum}
+use Rattle.dory_wire.specs.declared.fault.WireFault.{WireFault}
+use Rattle.dory_wire.specs.declared.fault.WireFault.TheVariants.{Kind, Body, Trailing, NoMemory}
+use Rattle.dory_wire.specs.Reading.{◌>>=◌, Fails, is_column, tested_at, columns_at, line_at, lines_at, sum_at, sums_at}
+
+-- what was read before, and what is still read
+abbrev pub with_front : {A : Type 0} → List A → Result (List A × List ℕ) WireFault → Result (List A × List ℕ) WireFault
+with_front front read = read >>= λ x. Ok (front ++ x.0, x.1)
+
+regroup : {A : Type 0} (front : List A) (n : A) (read : Result (List A × List ℕ) WireFault) → with_front front (read >>= λ x. Ok (n ∷ x.0, x.1)) ≡ with_front (front ++ n ∷ []) read
+regroup front n (Ok x) = ap (λ ns. Ok (ns, x.1)) (simp append_assoc)
+regroup front n (Err f) = refl
+
+-- a fault that one step meets is that of the whole
+fails_all : {A B : Type 0} (e : WireFault) (one : Result A WireFault) (whole : Result B WireFault) → ((f : WireFault) → one ≡ Err f → whole ≡ Err f) → Fails e one → Fails e whole
+fails_all NoMemory one whole h g = tt
+fails_all (Kind b) one whole h g = h (Kind b) g
+fails_all (Body at) one whole h g = h (Body at) g
+fails_all (Trailing at) one whole h g = h (Trailing at) g
+
+-- ---- columns
+
+pub columns_go : (front : List ℕ) (count i depth total : ℕ) (bytes : List ℕ) (n : ℕ) (after : List ℕ) (all : Result (List ℕ × List ℕ) WireFault) → i < count → tested_at w16 (is_column depth) total bytes ≡ Ok (n, after)
+    → with_front front (columns_at (count - i) depth total bytes) ≡ all → with_front (front ++ n ∷ []) (columns_at (count - (i + 1)) depth total after) ≡ all
+unfolding columns_at
+columns_go front count i depth total bytes n after all lt h so_far =
+    let k : count - i ≡ suc (count - (i + 1)) = omega arith in
+    let one : with_front front (columns_at (count - i) depth total bytes) ≡ with_front (front ++ n ∷ []) (columns_at (count - (i + 1)) depth total after) = rw (k, h) (regroup front n (columns_at (count - (i + 1)) depth total after)) in
+    sym one ∙ so_far
+
+pub columns_fail : (e : WireFault) (front : List ℕ) (count i depth total : ℕ) (bytes : List ℕ) (all : Result (List ℕ × List ℕ) WireFault) → i < count → Fails e (tested_at w16 (is_column depth) total bytes)
+    → with_front front (columns_at (count - i) depth total bytes) ≡ all → Fails e all
+unfolding columns_at
+columns_fail e front count i depth total bytes all lt fails so_far =
+    let k : count - i ≡ suc (count - (i + 1)) = omega arith in
+    fails_all e (tested_at w16 (is_column depth) total bytes) all (λ f h.
+    let one : with_front front (columns_at (count - i) depth total bytes) ≡ Err f = rw (k, h) refl in
+    sym so_far ∙ one) fails
+
+pub columns_done : (front : List ℕ) (count i depth total : ℕ) (bytes : List ℕ) (all : Result (List ℕ × List ℕ) WireFault) → count ≤ i → with_front front (columns_at (count - i) depth total bytes) ≡ all → all ≡ Ok (front, bytes)
+unfolding columns_at
+columns_done front count i depth total bytes all le so_far =
+    let k : count - i ≡ 0 = omega arith in
+    let one : with_front front (columns_at (count - i) depth total bytes) ≡ Ok (front, bytes) = rw k (ap (λ (ns : List ℕ). Ok (ns, bytes)) (append-nil front)) in
+    sym so_far ∙ one
+
+-- ---- lines
+
+pub lines_go : (front : List Place) (count i least total : ℕ) (bytes : List ℕ) (n : Place) (after : List ℕ) (all : Result (List Place × List ℕ) WireFault) → i < count → line_at least total bytes ≡ Ok (n, after)
+    → with_front front (lines_at (count - i) least total bytes) ≡ all → with_front (front ++ n ∷ []) (lines_at (count - (i + 1)) (n.slot + 1) total after) ≡ all
+unfolding lines_at
+lines_go front count i least total bytes n after all lt h so_far =
+    let k : count - i ≡ suc (count - (i + 1)) = omega arith in
+    let one : with_front front (lines_at (count - i) least total bytes) ≡ with_front (front ++ n ∷ []) (lines_at (count - (i + 1)) (n.slot + 1) total after) = rw (k, h) (regroup front n (lines_at (count - (i + 1)) (n.slot + 1) total after)) in
+    sym one ∙ so_far
+
+pub lines_fail : (e : WireFault) (front : List Place) (count i least total : ℕ) (bytes : List ℕ) (all : Result (List Place × List ℕ) WireFault) → i < count → Fails e (line_at least total bytes)
+    → with_front front (lines_at (count - i) least total bytes) ≡ all → Fails e all
+unfolding lines_at
+lines_fail e front count i least total bytes all lt fails so_far =
+    let k : count - i ≡ suc (count - (i + 1)) = omega arith in
+    fails_all e (line_at least total bytes) all (λ f h.
+    let one : with_front front (lines_at (count - i) least total bytes) ≡ Err f = rw (k, h) refl in
+    sym so_far ∙ one) fails
+
+pub lines_done : (front : List Place) (count i least total : ℕ) (bytes : List ℕ) (all : Result (List Place × List ℕ) WireFault) → count ≤ i → with_front front (lines_at (count - i) least total bytes) ≡ all → all ≡ Ok (front, bytes)
+unfolding lines_at
+lines_done front count i least total bytes all le so_far =
+    let k : count - i ≡ 0 = omega arith in
+    let one : with_front front (lines_at (count - i) least total bytes) ≡ Ok (front, bytes) = rw k (ap (λ (ns : List Place). Ok (ns, bytes)) (append-nil front)) in
+    sym so_far ∙ one
+
+-- ---- sums
+
+pub sums_go : (front : List Sum) (count i lines total : ℕ) (bytes : List ℕ) (n : Sum) (after : List ℕ) (all : Result (List Sum × List ℕ) WireFault) → i < count → sum_at lines total bytes ≡ Ok (n, after)
+    → with_front front (sums_at (count - i) lines total bytes) ≡ all → with_front (front ++ n ∷ []) (sums_at (count - (i + 1)) lines total after) ≡ all
+unfolding sums_at
+sums_go front count i lines total bytes n after all lt h so_far =
+    let k : count - i ≡ suc (count - (i + 1)) = omega arith in
+    let one : with_front front (sums_at (count - i) lines total bytes) ≡ with_front (front ++ n ∷ []) (sums_at (count - (i + 1)) lines total after) = rw (k, h) (regroup front n (sums_at (count - (i + 1)) lines total after)) in
+    sym one ∙ so_far
+
+pub sums_fail : (e : WireFault) (front : List Sum) (count i lines total : ℕ) (bytes : List ℕ) (all : Result (List Sum × List ℕ) WireFault) → i < count → Fails e (sum_at lines total bytes)
+    → with_front front (sums_at (count - i) lines total bytes) ≡ all → Fails e all
+unfolding sums_at
+sums_fail e front count i lines total bytes all lt fails so_far =
+    let k : count - i ≡ suc (count - (i + 1)) = omega arith in
+    fails_all e (sum_at lines total bytes) all (λ f h.
+    let one : with_front front (sums_at (count - i) lines total bytes) ≡ Err f = rw (k, h) refl in
+    sym so_far ∙ one) fails
+
+pub sums_done : (front : List Sum) (count i lines total : ℕ) (bytes : List ℕ) (all : Result (List Sum × List ℕ) WireFault) → count ≤ i → with_front front (sums_at (count - i) lines total bytes) ≡ all → all ≡ Ok (front, bytes)
+unfolding sums_at
+sums_done front count i lines total bytes all le so_far =
+    let k : count - i ≡ 0 = omega arith in
+    let one : with_front front (sums_at (count - i) lines total bytes) ≡ Ok (front, bytes) = rw k (ap (λ (ns : List Sum). Ok (ns, bytes)) (append-nil front)) in
+    sym so_far ∙ one

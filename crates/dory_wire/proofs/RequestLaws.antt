@@ -1,0 +1,220 @@
+-- The two laws of requests: what is read is spelled so, and what is spelled so is read.
+use Rattle.std.proofs.Common.{◌≡◌, ℕ, zero, suc, ◌^◌, ◌<◌, ◌≤◌, true, cond, eqb, List, [], ◌∷◌, ◌++◌, length, Result, Ok, Err, inl, inr, refl, sym, ap, subst, ◌∙◌, append_assoc, arith}
+use Rattle.std.specs.List.{flat_map, AllByRecursion}
+use Rattle.std.specs.Prelude.{IfOk}
+use Rattle.std.specs.Int.{w16, w32, to_be_bytes}
+use Rattle.std.proofs.lemmas.Bool.{leb-true, ltb-true, le-leb, lt-ltb, eqb-true}
+use Rattle.std.proofs.lemmas.List.{append-nil}
+use Rattle.std.proofs.lemmas.List.Concat.{flat_map-cons}
+use Rattle.dory_base.specs.Dims.{Dims, IsDims}
+use Rattle.dory_base.specs.declared.ids.AskId.{AskId}
+use Rattle.dory_wire.specs.declared.message.Want.{Want}
+use Rattle.dory_wire.specs.declared.message.Want.TheVariants.{Latest, Search}
+use Rattle.dory_wire.specs.declared.message.Request.{Request}
+use Rattle.dory_wire.specs.declared.fault.WireFault.{WireFault}
+use Rattle.dory_wire.specs.declared.fault.WireFault.TheVariants.{Kind}
+use Rattle.dory_wire.specs.Spelling.{four, ask, want, want_kind, spelling_of_request, AreColumns, IsWant, IsRequest}
+use Rattle.dory_wire.specs.Reading.{◌>>=◌, Gives, number_at, tested_at, byte_at, ask_at, columns_at, search_at, want_at, ended, request_at, request_of, is_column, is_count, is_depth, is_probes, is_form, is_asking}
+use Rattle.dory_wire.proofs.Fields.{IsBytes, IsBytes-rest, bind_ok, ok_is, Takes, Takes-then, wide16, wide32, number_takes, number_again, tested_takes, tested_again, byte_takes, byte_again, ask_takes, ask_again}
+use Rattle.dory_wire.proofs.Ranges.{narrow, either, ended_ok, choice_met, depth_range, probes_range, depth_met, probes_met}
+
+pub columns_take : (n depth total : ℕ) (bytes : List ℕ) (x : List ℕ × List ℕ) → IsBytes bytes → columns_at n depth total bytes ≡ Ok x
+    → Takes bytes (flat_map (to_be_bytes w16) x.0) x.1 × (length x.0 ≡ n) × AllByRecursion (λ c. c < 2 ^ depth) x.0
+unfolding columns_at
+columns_take zero depth total bytes x fits e =
+    subst (λ (y : List ℕ × List ℕ). Takes bytes (flat_map (to_be_bytes w16) y.0) y.1 × (length y.0 ≡ 0) × AllByRecursion (λ c. c < 2 ^ depth) y.0) (ok_is ([], bytes) x e) (record { parts = refl; rest_fits = fits }, refl, tt)
+columns_take (suc n) depth total bytes x fits e =
+    let a = bind_ok (tested_at w16 (is_column depth) total bytes) (λ c. columns_at n depth total c.1 >>= λ more. Ok (c.0 ∷ more.0, more.1)) x e in
+    let b = bind_ok (columns_at n depth total a.0.1) (λ more. Ok (a.0.0 ∷ more.0, more.1)) x a.2 in
+    let first = tested_takes w16 (2 ^ 16) wide16 (is_column depth) total bytes a.0.0 a.0.1 fits a.1 in
+    let second = columns_take n depth total a.0.1 b.0 first.0.rest_fits b.1 in
+    let both = Takes-then bytes (to_be_bytes w16 a.0.0) a.0.1 (flat_map (to_be_bytes w16) b.0.0) b.0.1 first.0 second.0 in
+    let made : List ℕ × List ℕ = (a.0.0 ∷ b.0.0, b.0.1) in
+    subst (λ (y : List ℕ × List ℕ). Takes bytes (flat_map (to_be_bytes w16) y.0) y.1 × (length y.0 ≡ suc n) × AllByRecursion (λ c. c < 2 ^ depth) y.0) (ok_is made x b.2)
+    (rw flat_map-cons both, ap suc second.1, (ltb-true a.0.0 (2 ^ depth) first.2, second.2))
+
+-- a row has at most 2,048 columns
+few_columns : (depth c : ℕ) → depth ≤ 11 → c < 2 ^ depth → c < 2 ^ 16
+few_columns depth c high lt = omega (arith, narrow depth high)
+
+pub columns_again : (depth total : ℕ) (cs : List ℕ) (rest : List ℕ) → depth ≤ 11 → AllByRecursion (λ c. c < 2 ^ depth) cs → columns_at (length cs) depth total (flat_map (to_be_bytes w16) cs ++ rest) ≡ Ok (cs, rest)
+unfolding columns_at
+columns_again depth total [] rest high are = refl
+columns_again depth total (c ∷ cs) rest high are =
+    let regrouped : flat_map (to_be_bytes w16) (c ∷ cs) ++ rest ≡ to_be_bytes w16 c ++ (flat_map (to_be_bytes w16) cs ++ rest) = ap (λ (x : List ℕ). x ++ rest) (flat_map-cons (to_be_bytes w16) c cs) ∙ append_assoc (to_be_bytes w16 c) (flat_map (to_be_bytes w16) cs) rest in
+    let first = tested_again w16 (2 ^ 16) wide16 (is_column depth) total c (flat_map (to_be_bytes w16) cs ++ rest) (few_columns depth c high are.0) (lt-ltb c (2 ^ depth) are.0) in
+    ap (columns_at (suc (length cs)) depth total) regrouped ∙ rw (first, columns_again depth total cs rest high are.1) refl
+
+abbrev after_form : ℕ → (version depth probes : ℕ) → ℕ × List ℕ → Result (Want × List ℕ) WireFault
+after_form total version depth probes form = columns_at probes depth total form.1 >>= λ keys. Ok (Search version (record { depth = depth; probes = probes }) keys.0, keys.1)
+
+abbrev after_probes : ℕ → (version depth : ℕ) → ℕ × List ℕ → Result (Want × List ℕ) WireFault
+after_probes total version depth probes = byte_at is_form total probes.1 >>= λ form. after_form total version depth probes.0 form
+
+abbrev after_depth : ℕ → ℕ → ℕ × List ℕ → Result (Want × List ℕ) WireFault
+after_depth total version depth = byte_at is_probes total depth.1 >>= λ probes. after_probes total version depth.0 probes
+
+abbrev after_version : ℕ → ℕ × List ℕ → Result (Want × List ℕ) WireFault
+after_version total version = byte_at is_depth total version.1 >>= λ depth. after_depth total version.0 depth
+
+-- a search's fields
+abbrev pub search : ℕ → Dims → List ℕ → List ℕ
+search version shape keys = four version ++ shape.depth ∷ shape.probes ∷ 240 ∷ flat_map (to_be_bytes w16) keys
+
+-- what was read is a search
+pub record TakesSearch (bytes : List ℕ) (x : Want × List ℕ) : Type 0 where
+  pub version : ℕ
+  pub shape : Dims
+  pub keys : List ℕ
+  pub is : x.0 ≡ Search version shape keys
+  pub takes : Takes bytes (search version shape keys) x.1
+  pub ranges : IsWant (Search version shape keys)
+
+pub search_takes : (total : ℕ) (bytes : List ℕ) (x : Want × List ℕ) → IsBytes bytes → search_at total bytes ≡ Ok x → TakesSearch bytes x
+unfolding search_at
+search_takes total bytes x fits e =
+    let a = bind_ok (tested_at w32 is_count total bytes) (after_version total) x e in
+    let b = bind_ok (byte_at is_depth total a.0.1) (after_depth total a.0.0) x a.2 in
+    let c = bind_ok (byte_at is_probes total b.0.1) (after_probes total a.0.0 b.0.0) x b.2 in
+    let d = bind_ok (byte_at is_form total c.0.1) (after_form total a.0.0 b.0.0 c.0.0) x c.2 in
+    let k = bind_ok (columns_at c.0.0 b.0.0 total d.0.1) (λ keys. Ok (Search a.0.0 (record { depth = b.0.0; probes = c.0.0 }) keys.0, keys.1)) x d.2 in
+    let t0 = tested_takes w32 (2 ^ 32) wide32 is_count total bytes a.0.0 a.0.1 fits a.1 in
+    let t1 = byte_takes is_depth total a.0.1 b.0.0 b.0.1 t0.0.rest_fits b.1 in
+    let t2 = byte_takes is_probes total b.0.1 c.0.0 c.0.1 t1.0.rest_fits c.1 in
+    let t3 = byte_takes is_form total c.0.1 d.0.0 d.0.1 t2.0.rest_fits d.1 in
+    let t4 = columns_take c.0.0 b.0.0 total d.0.1 k.0 t3.0.rest_fits k.1 in
+    let form : d.0.0 ≡ 240 = eqb-true d.0.0 240 t3.1 in
+    let p3 = Takes-then c.0.1 (d.0.0 ∷ []) d.0.1 (flat_map (to_be_bytes w16) k.0.0) k.0.1 t3.0 t4.0 in
+    let p2 = Takes-then b.0.1 (c.0.0 ∷ []) c.0.1 (d.0.0 ∷ flat_map (to_be_bytes w16) k.0.0) k.0.1 t2.0 p3 in
+    let p1 = Takes-then a.0.1 (b.0.0 ∷ []) b.0.1 (c.0.0 ∷ d.0.0 ∷ flat_map (to_be_bytes w16) k.0.0) k.0.1 t1.0 p2 in
+    let p0 = Takes-then bytes (four a.0.0) a.0.1 (b.0.0 ∷ c.0.0 ∷ d.0.0 ∷ flat_map (to_be_bytes w16) k.0.0) k.0.1 t0.0 p1 in
+    let shape : Dims = record { depth = b.0.0; probes = c.0.0 } in
+    let made : Want × List ℕ = (Search a.0.0 shape k.0.0, k.0.1) in
+    let depth = depth_range b.0.0 t1.1 in
+    let probes = probes_range c.0.0 t2.1 in
+    let dims : IsDims shape = record { low = depth.0; high = depth.1; some = probes.0; few = probes.1 } in
+    let columns : AreColumns shape k.0.0 = record { many = t4.1; each = t4.2 } in
+    subst (TakesSearch bytes) (ok_is made x k.2) (record {
+      version = a.0.0;
+      shape = shape;
+      keys = k.0.0;
+      is = refl;
+      takes = subst (λ (f : ℕ). Takes bytes (four a.0.0 ++ b.0.0 ∷ c.0.0 ∷ f ∷ flat_map (to_be_bytes w16) k.0.0) k.0.1) form p0;
+      ranges = (leb-true a.0.0 1048576 t0.2, dims, columns);
+    })
+
+regroup : (a : List ℕ) (d p f : ℕ) (k rest : List ℕ) → (a ++ d ∷ p ∷ f ∷ k) ++ rest ≡ a ++ (d ∷ p ∷ f ∷ (k ++ rest))
+regroup a d p f k rest = append_assoc a (d ∷ p ∷ f ∷ k) rest
+
+pub search_again : (total version : ℕ) (shape : Dims) (keys rest : List ℕ) → IsWant (Search version shape keys) → search_at total (search version shape keys ++ rest) ≡ Ok (Search version shape keys, rest)
+unfolding search_at
+search_again total version shape keys rest is =
+    let r4 = flat_map (to_be_bytes w16) keys ++ rest in
+    let r3 = 240 ∷ r4 in
+    let r2 = shape.probes ∷ r3 in
+    let r1 = shape.depth ∷ r2 in
+    let first = tested_again w32 (2 ^ 32) wide32 is_count total version r1 (omega (arith, is.0)) (le-leb version 1048576 is.0) in
+    let depth = byte_again is_depth total shape.depth r2 (depth_met shape.depth is.1.low is.1.high) in
+    let probes = byte_again is_probes total shape.probes r3 (probes_met shape.probes is.1.some is.1.few) in
+    let form = byte_again is_form total 240 r4 refl in
+    let columns : columns_at shape.probes shape.depth total r4 ≡ Ok (keys, rest) = subst (λ (n : ℕ). columns_at n shape.depth total r4 ≡ Ok (keys, rest)) is.2.many (columns_again shape.depth total keys rest is.1.high is.2.each) in
+    ap (search_at total) (regroup (four version) shape.depth shape.probes 240 (flat_map (to_be_bytes w16) keys) rest) ∙ rw (first, depth, probes, form, columns) refl
+
+-- ---- what is asked
+
+pub want_again : (total : ℕ) (w : Want) (rest : List ℕ) → IsWant w → want_at (want_kind w) total (want w ++ rest) ≡ Ok (w, rest)
+unfolding want_at
+want_again total Latest rest is = refl
+want_again total (Search version shape keys) rest is = search_again total version shape keys rest is
+
+-- what was read of this kind
+pub record TakesWant (kind : ℕ) (bytes : List ℕ) (x : Want × List ℕ) : Type 0 where
+  pub kind_is : want_kind x.0 ≡ kind
+  pub takes : Takes bytes (want x.0) x.1
+  pub ranges : IsWant x.0
+
+is_search : (bytes : List ℕ) (w : Want) (rest : List ℕ) → TakesSearch bytes (w, rest) → TakesWant 2 bytes (w, rest)
+is_search bytes w rest t =
+    subst (λ (y : Want). TakesWant 2 bytes (y, rest)) (sym t.is) (record { kind_is = refl; takes = t.takes; ranges = t.ranges })
+
+abbrev chosen : ℕ → List ℕ → ℕ → Result (Want × List ℕ) WireFault
+chosen total bytes n = cond (eqb n 1) (Ok (Latest, bytes)) (search_at total bytes)
+
+want_takes : (kind total : ℕ) (bytes : List ℕ) (x : Want × List ℕ) → IsBytes bytes → is_asking kind ≡ true → want_at kind total bytes ≡ Ok x → TakesWant kind bytes x
+unfolding want_at
+want_takes kind total bytes x fits known e =
+    elim (either (eqb kind 1) (eqb kind 2) known) [
+      | inl one ↦
+          let k : kind ≡ 1 = eqb-true kind 1 one in
+          let latest : chosen total bytes 1 ≡ Ok x = sym (ap (chosen total bytes) k) ∙ e in
+          subst (λ (n : ℕ). TakesWant n bytes x) (sym k) (subst (TakesWant 1 bytes) (ok_is (Latest, bytes) x latest) (record { kind_is = refl; takes = record { parts = refl; rest_fits = fits }; ranges = tt }))
+      | inr two ↦
+          let k : kind ≡ 2 = eqb-true kind 2 two in
+          let found : chosen total bytes 2 ≡ Ok x = sym (ap (chosen total bytes) k) ∙ e in
+          subst (λ (n : ℕ). TakesWant n bytes x) (sym k) (is_search bytes x.0 x.1 (search_takes total bytes x fits found))
+    ]
+
+-- ---- requests
+
+abbrev made_request : AskId → ℕ → Want → Request
+made_request a folder w = record { ask = a; folder = record { 0 = folder }; want = w }
+
+abbrev after_folder : ℕ → ℕ → AskId → ℕ × List ℕ → Result Request WireFault
+after_folder kind total a folder = want_at kind total folder.1 >>= λ want. ended (made_request a folder.0 want.0) total want.1
+
+abbrev after_ask : ℕ → ℕ → AskId × List ℕ → Result Request WireFault
+after_ask kind total a = number_at w32 total a.1 >>= λ folder. after_folder kind total a.0 folder
+
+request_at_takes : (kind total : ℕ) (bytes : List ℕ) (r : Request) → IsBytes bytes → is_asking kind ≡ true → request_at kind total bytes ≡ Ok r
+    → (kind ∷ bytes ≡ spelling_of_request r) × IsRequest r
+unfolding request_at spelling_of_request
+request_at_takes kind total bytes r fits known e =
+    let a = bind_ok (ask_at total bytes) (after_ask kind total) r e in
+    let b = bind_ok (number_at w32 total a.0.1) (after_folder kind total a.0.0) r a.2 in
+    let c = bind_ok (want_at kind total b.0.1) (λ want. ended (made_request a.0.0 b.0.0 want.0) total want.1) r b.2 in
+    let t0 = ask_takes total bytes a.0 fits a.1 in
+    let t1 = number_takes w32 (2 ^ 32) wide32 total a.0.1 b.0.0 b.0.1 t0.0.rest_fits b.1 in
+    let t2 = want_takes kind total b.0.1 c.0 t1.0.rest_fits known c.1 in
+    let g = ended_ok (made_request a.0.0 b.0.0 c.0.0) total c.0.1 r c.2 in
+    let p1 = Takes-then bytes (ask a.0.0) a.0.1 (four b.0.0) b.0.1 t0.0 t1.0 in
+    let p2 = Takes-then bytes (ask a.0.0 ++ four b.0.0) b.0.1 (want c.0.0) c.0.1 p1 t2.takes in
+    let text : bytes ≡ ask a.0.0 ++ four b.0.0 ++ want c.0.0 = p2.parts ∙ ap (λ (z : List ℕ). (ask a.0.0 ++ four b.0.0 ++ want c.0.0) ++ z) g.0 ∙ append-nil (ask a.0.0 ++ four b.0.0 ++ want c.0.0) in
+    let whole : kind ∷ bytes ≡ spelling_of_request (made_request a.0.0 b.0.0 c.0.0) = (λ i. sym t2.kind_is i ∷ text i) in
+    let is : IsRequest (made_request a.0.0 b.0.0 c.0.0) = record { ask = t0.1; folder = t1.1; want = t2.ranges } in
+    subst (λ (y : Request). (kind ∷ bytes ≡ spelling_of_request y) × IsRequest y) g.1 (whole, is)
+
+-- what is read of a message is spelled so, and is in range
+pub request_takes : (bytes : List ℕ) (r : Request) → IsBytes bytes → request_of bytes ≡ Ok r → (bytes ≡ spelling_of_request r) × IsRequest r
+unfolding request_of
+request_takes [] r fits e = absurd cc
+request_takes (kind ∷ bytes) r fits e =
+    let g = choice_met (is_asking kind) (Kind kind) (request_at kind (suc (length bytes)) bytes) r e in
+    request_at_takes kind (suc (length bytes)) bytes r (IsBytes-rest kind bytes fits) g.0 g.1
+
+known_kind : (w : Want) → is_asking (want_kind w) ≡ true
+known_kind Latest = refl
+known_kind (Search version shape keys) = refl
+
+request_at_again : (total : ℕ) (r : Request) → IsRequest r → request_at (want_kind r.want) total (ask r.ask ++ (four r.folder.0 ++ (want r.want ++ []))) ≡ Ok r
+unfolding request_at
+request_at_again total r is =
+    rw (ask_again total r.ask (four r.folder.0 ++ (want r.want ++ [])) is.ask, number_again w32 (2 ^ 32) wide32 total r.folder.0 (want r.want ++ []) is.folder, want_again total r.want [] is.want) refl
+
+-- a request that is spelled is read
+pub read_again_request : (r : Request) → IsRequest r → request_of (spelling_of_request r) ≡ Ok r
+unfolding request_of spelling_of_request
+read_again_request r is =
+    let text : ask r.ask ++ four r.folder.0 ++ want r.want ≡ ask r.ask ++ (four r.folder.0 ++ (want r.want ++ [])) =
+    append_assoc (ask r.ask) (four r.folder.0) (want r.want) ∙ ap (λ (z : List ℕ). ask r.ask ++ (four r.folder.0 ++ z)) (sym (append-nil (want r.want))) in
+    let total = suc (length (ask r.ask ++ four r.folder.0 ++ want r.want)) in
+    rw (known_kind r.want) (ap (request_at (want_kind r.want) total) text ∙ request_at_again total r is)
+
+-- so is what a call gives that gives what reading gives
+pub request_spelled : (bytes : List ℕ) (result : Result Request WireFault) → IsBytes bytes → Gives result (request_of bytes) → IfOk result (λ r. IsRequest r × (bytes ≡ spelling_of_request r))
+request_spelled bytes (Ok r) fits given =
+    let t = request_takes bytes r fits given in
+    (t.1, t.0)
+request_spelled bytes (Err e) fits given = tt
+
+pub request_only : (bytes : List ℕ) (result : Result Request WireFault) → Gives result (request_of bytes) → (r : Request) → IsRequest r → bytes ≡ spelling_of_request r → Gives result (Ok r)
+request_only bytes result given r is e = subst (Gives result) (ap request_of e ∙ read_again_request r is) given

@@ -1,0 +1,4 @@
+pub mod Spelling
+pub mod Frame
+pub mod Reading
+pub mod Read

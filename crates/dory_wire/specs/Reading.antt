@@ -1,0 +1,333 @@
+-- Reading a message from left to right, field by field, up to the first fault.
+use Rattle.std.specs.Prelude.{ℕ, zero, suc, ◌≡◌, ◌+◌, ◌-◌, ◌/◌, ◌%◌, ◌==◌, ◌^◌, nat_lt, nat_le, Bool, true, false, not, ◌&&◌, ◌||◌, if◌then◌else◌, List, [], ◌∷◌, ◌++◌, length, take, drop, Option, Some, None, Result, Ok, Err}
+use Rattle.std.specs.Int.{Width, w16, w32, w64, byte_len, from_be_bytes}
+use Rattle.dory_base.specs.TagBytes.{tag_number}
+use Rattle.dory_base.specs.declared.ids.AskId.{AskId}
+use Rattle.dory_base.specs.declared.ids.UpdateId.{UpdateId}
+use Rattle.dory_base.specs.declared.found.Place.{Place}
+use Rattle.dory_base.specs.declared.found.Sum.{Sum}
+use Rattle.dory_base.specs.declared.found.Found.{Found}
+use Rattle.dory_base.specs.declared.refusal.Refusal.{Refusal}
+use Rattle.dory_base.specs.declared.refusal.Refusal.TheVariants.{NoFolder, ShapeWrong, Unretained, NoMemory as OutOfMemory}
+use Rattle.dory_wire.specs.declared.message.Want.{Want}
+use Rattle.dory_wire.specs.declared.message.Want.TheVariants.{Latest, Search}
+use Rattle.dory_wire.specs.declared.message.What.{What}
+use Rattle.dory_wire.specs.declared.message.What.TheVariants.{At, Found as Finds, Refused}
+use Rattle.dory_wire.specs.declared.message.Request.{Request}
+use Rattle.dory_wire.specs.declared.message.Reply.{Reply}
+use Rattle.dory_wire.specs.declared.fault.WireFault.{WireFault}
+use Rattle.dory_wire.specs.declared.fault.WireFault.TheVariants.{Kind, Body, Trailing, NoMemory}
+use Rattle.dory_wire.specs.Spelling.{packed_len}
+use Rattle.dory_wire.specs.Frame.{message_in}
+
+infixl 10 ◌>>=◌
+-- go on with what was read, or stop at the fault
+abbrev pub ◌>>=◌ : {A B : Type 0} → Result A WireFault → (A → Result B WireFault) → Result B WireFault
+(Ok x) >>= f = f x
+(Err e) >>= f = Err e
+
+-- a fault is the one that reading finds, and memory may run out
+abbrev pub Fails : {Y : Type 0} → WireFault → Result Y WireFault → Type 0
+Fails NoMemory read = Unit {0}
+Fails (Kind b) read = read ≡ Err (Kind b)
+Fails (Body at) read = read ≡ Err (Body at)
+Fails (Trailing at) read = read ≡ Err (Trailing at)
+
+-- what a field's reader returned, seen by view, is what reading gives, unless memory ran out
+abbrev pub GivesBy : {X Y : Type 0} → (X → Y) → Result X WireFault → Result Y WireFault → Type 0
+GivesBy view (Ok x) read = read ≡ Ok (view x)
+GivesBy view (Err e) read = Fails e read
+
+-- unless memory runs out, a decoder gives what reading gives
+abbrev pub Gives : {Y : Type 0} → Result Y WireFault → Result Y WireFault → Type 0
+Gives (Ok x) read = read ≡ Ok x
+Gives (Err e) read = Fails e read
+
+-- how many bytes of a message of `total` bytes stand before what is left to read
+abbrev pub place : ℕ → List ℕ → ℕ
+place total bytes = total - length bytes
+
+-- a field of so many bytes; a fault names its first byte where it is cut short
+abbrev pub field_at : ℕ → ℕ → List ℕ → Result (List ℕ × List ℕ) WireFault
+field_at n total bytes = if nat_lt (length bytes) n then Err (Body (place total bytes)) else Ok (take n bytes, drop n bytes)
+
+-- a field's value where it is in range; else a fault at the field's first byte
+abbrev pub ranged : {A : Type 0} → ℕ → List ℕ → Bool → A → Result A WireFault
+ranged total bytes true x = Ok x
+ranged total bytes false x = Err (Body (place total bytes))
+
+-- a number of this width
+unfoldable pub number_at : Width → ℕ → List ℕ → Result (ℕ × List ℕ) WireFault
+number_at w total bytes =
+    if nat_lt (length bytes) (byte_len w)
+    then Err (Body (place total bytes))
+    else Ok (from_be_bytes w (take (byte_len w) bytes), drop (byte_len w) bytes)
+
+-- a number of this width that meets a test
+unfoldable pub tested_at : Width → (ℕ → Bool) → ℕ → List ℕ → Result (ℕ × List ℕ) WireFault
+tested_at w test total bytes = do
+  n ← number_at w total bytes
+  ranged total bytes (test n.0) n
+
+-- a byte that meets a test
+unfoldable pub byte_at : (ℕ → Bool) → ℕ → List ℕ → Result (ℕ × List ℕ) WireFault
+byte_at test total [] = Err (Body (place total []))
+byte_at test total (b ∷ rest) = ranged total (b ∷ rest) (test b) (b, rest)
+
+-- a version or a length of a history
+abbrev pub is_count : ℕ → Bool
+is_count n = nat_le n 1048576
+
+-- the depth of a shape
+abbrev pub is_depth : ℕ → Bool
+is_depth n = nat_le 8 n && nat_le n 11
+
+-- how many probes a shape has
+abbrev pub is_probes : ℕ → Bool
+is_probes n = nat_le 1 n && nat_le n 8
+
+-- how many sums there are
+abbrev pub is_few : ℕ → Bool
+is_few n = nat_le n 8
+
+-- how many lines a manifest has
+abbrev pub is_lines : ℕ → Bool
+is_lines n = nat_le n 4096
+
+-- the form in which each probe is its column
+abbrev pub is_form : ℕ → Bool
+is_form n = n == 240
+
+-- a column within a row of this depth
+abbrev pub is_column : ℕ → ℕ → Bool
+is_column depth n = nat_lt n (2 ^ depth)
+
+-- a slot from this one on
+abbrev pub is_slot : ℕ → ℕ → Bool
+is_slot least n = nat_le least n && nat_lt n 4096
+
+-- an ask, which is one field
+unfoldable pub ask_at : ℕ → List ℕ → Result (AskId × List ℕ) WireFault
+ask_at total bytes = do
+  f ← field_at 16 total bytes
+  Ok (
+    record {
+      member = record { 0 = from_be_bytes w32 (take 4 f.0) };
+      serial = from_be_bytes w64 (take 8 (drop 4 f.0));
+      step = from_be_bytes w32 (drop 8 (drop 4 f.0));
+    },
+    f.1,
+  )
+
+-- an update's id, which is one field; its serial is at least 1
+unfoldable pub id_at : ℕ → List ℕ → Result (UpdateId × List ℕ) WireFault
+id_at total bytes = do
+  f ← field_at 12 total bytes
+  ranged total bytes (nat_le 1 (from_be_bytes w64 (drop 4 f.0))) (
+    record {
+      member = record { 0 = from_be_bytes w32 (take 4 f.0) };
+      serial = from_be_bytes w64 (drop 4 f.0);
+    },
+    f.1,
+  )
+
+-- so many columns, each within a row of this depth
+unfoldable pub columns_at : ℕ → ℕ → ℕ → List ℕ → Result (List ℕ × List ℕ) WireFault
+columns_at zero depth total bytes = Ok ([], bytes)
+columns_at (suc n) depth total bytes = do
+  c ← tested_at w16 (is_column depth) total bytes
+  more ← columns_at n depth total c.1
+  Ok (c.0 ∷ more.0, more.1)
+
+-- what a search asks: the version, the shape, the form in which each probe is its column, and the columns
+unfoldable pub search_at : ℕ → List ℕ → Result (Want × List ℕ) WireFault
+search_at total bytes = do
+  version ← tested_at w32 is_count total bytes
+  depth ← byte_at is_depth total version.1
+  probes ← byte_at is_probes total depth.1
+  form ← byte_at is_form total probes.1
+  keys ← columns_at probes.0 depth.0 total form.1
+  Ok (Search version.0 (record { depth = depth.0; probes = probes.0 }) keys.0, keys.1)
+
+-- what is asked, by its kind
+unfoldable pub want_at : ℕ → ℕ → List ℕ → Result (Want × List ℕ) WireFault
+want_at kind total bytes = if kind == 1 then Ok (Latest, bytes) else search_at total bytes
+
+-- a line of a manifest, whose slot is this one or a later one
+unfoldable pub line_at : ℕ → ℕ → List ℕ → Result (Place × List ℕ) WireFault
+line_at least total bytes = do
+  slot ← tested_at w16 (is_slot least) total bytes
+  doc ← number_at w32 total slot.1
+  id ← id_at total doc.1
+  Ok (record { slot = slot.0; doc = record { 0 = doc.0 }; id = id.0 }, id.1)
+
+-- so many lines of a manifest, whose slots rise from this one on
+unfoldable pub lines_at : ℕ → ℕ → ℕ → List ℕ → Result (List Place × List ℕ) WireFault
+lines_at zero least total bytes = Ok ([], bytes)
+lines_at (suc n) least total bytes = do
+  first ← line_at least total bytes
+  more ← lines_at n (first.0.slot + 1) total first.1
+  Ok (first.0 ∷ more.0, more.1)
+
+-- the lowest n bits of a number, the lowest first
+abbrev pub bits_from : ℕ → ℕ → List Bool
+bits_from zero b = []
+bits_from (suc n) b = (b % 2 == 1) ∷ bits_from n (b / 2)
+
+-- the bits of bytes: bit j is bit j mod 8 of byte j div 8
+abbrev pub bits_in : List ℕ → List Bool
+bits_in [] = []
+bits_in (b ∷ bytes) = bits_from 8 b ++ bits_in bytes
+
+-- none of them is set
+abbrev pub is_clear : List Bool → Bool
+is_clear [] = true
+is_clear (b ∷ bits) = not b && is_clear bits
+
+-- so many bits, which are one field; the bits after them are zero
+unfoldable pub bits_at : ℕ → ℕ → List ℕ → Result (List Bool × List ℕ) WireFault
+bits_at n total bytes = do
+  f ← field_at (packed_len n) total bytes
+  ranged total bytes (is_clear (drop n (bits_in f.0))) (take n (bits_in f.0), f.1)
+
+-- a sum with so many bits
+unfoldable pub sum_at : ℕ → ℕ → List ℕ → Result (Sum × List ℕ) WireFault
+sum_at lines total bytes = do
+  bits ← bits_at lines total bytes
+  tag ← field_at 16 total bits.1
+  Ok (record { bits = bits.0; tag = tag_number tag.0 }, tag.1)
+
+-- so many sums, each with so many bits
+unfoldable pub sums_at : ℕ → ℕ → ℕ → List ℕ → Result (List Sum × List ℕ) WireFault
+sums_at zero lines total bytes = Ok ([], bytes)
+sums_at (suc n) lines total bytes = do
+  first ← sum_at lines total bytes
+  more ← sums_at n lines total first.1
+  Ok (first.0 ∷ more.0, more.1)
+
+-- what a version holds
+unfoldable pub found_at : ℕ → List ℕ → Result (Found × List ℕ) WireFault
+found_at total bytes = do
+  version ← tested_at w32 is_count total bytes
+  count ← tested_at w16 is_lines total version.1
+  lines ← lines_at count.0 0 total count.1
+  probes ← byte_at is_few total lines.1
+  sums ← sums_at probes.0 count.0 total probes.1
+  Ok (record { version = version.0; manifest = lines.0; sums = sums.0 }, sums.1)
+
+-- a shape that was wanted
+unfoldable pub shape_at : ℕ → List ℕ → Result (Refusal × List ℕ) WireFault
+shape_at total bytes = do
+  depth ← byte_at is_depth total bytes
+  probes ← byte_at is_probes total depth.1
+  Ok (ShapeWrong depth.0 probes.0, probes.1)
+
+-- the versions that are retained
+unfoldable pub retained_at : ℕ → List ℕ → Result (Refusal × List ℕ) WireFault
+retained_at total bytes = do
+  oldest ← tested_at w32 is_count total bytes
+  newest ← tested_at w32 is_count total oldest.1
+  Ok (Unretained oldest.0 newest.0, newest.1)
+
+-- the fields of a refusal, by its code
+unfoldable pub code_at : ℕ → ℕ → List ℕ → Result (Refusal × List ℕ) WireFault
+code_at code total bytes =
+    if code == 1 then Ok (NoFolder, bytes)
+    else (if code == 2 then shape_at total bytes
+    else (if code == 3 then retained_at total bytes
+    else Ok (OutOfMemory, bytes)))
+
+-- the codes that have a message
+abbrev pub is_code : ℕ → Bool
+is_code n = (n == 1) || (n == 2) || (n == 3) || (n == 14)
+
+-- a refusal
+unfoldable pub refusal_at : ℕ → List ℕ → Result (Refusal × List ℕ) WireFault
+refusal_at total bytes = do
+  code ← byte_at is_code total bytes
+  code_at code.0 total code.1
+
+-- a length, as what is answered
+unfoldable pub length_at : ℕ → List ℕ → Result (What × List ℕ) WireFault
+length_at total bytes = do
+  length ← tested_at w32 is_count total bytes
+  Ok (At length.0, length.1)
+
+-- what a version holds, as what is answered
+unfoldable pub holding_at : ℕ → List ℕ → Result (What × List ℕ) WireFault
+holding_at total bytes = do
+  f ← found_at total bytes
+  Ok (Finds f.0, f.1)
+
+-- a refusal, as what is answered
+unfoldable pub refused_at : ℕ → List ℕ → Result (What × List ℕ) WireFault
+refused_at total bytes = do
+  code ← refusal_at total bytes
+  Ok (Refused code.0, code.1)
+
+-- what is answered, by its kind
+unfoldable pub what_at : ℕ → ℕ → List ℕ → Result (What × List ℕ) WireFault
+what_at kind total bytes =
+    if kind == 129 then length_at total bytes
+    else (if kind == 130 then holding_at total bytes
+    else refused_at total bytes)
+
+-- what was read to the end; else a fault at the byte after the last field
+abbrev pub ended : {A : Type 0} → A → ℕ → List ℕ → Result A WireFault
+ended x total bytes = if length bytes == 0 then Ok x else Err (Trailing (place total bytes))
+
+-- a request of so many bytes whose kind is known
+unfoldable pub request_at : ℕ → ℕ → List ℕ → Result Request WireFault
+request_at kind total bytes = do
+  ask ← ask_at total bytes
+  folder ← number_at w32 total ask.1
+  want ← want_at kind total folder.1
+  ended (record { ask = ask.0; folder = record { 0 = folder.0 }; want = want.0 }) total want.1
+
+-- a reply of so many bytes whose kind is known
+unfoldable pub reply_at : ℕ → ℕ → List ℕ → Result Reply WireFault
+reply_at kind total bytes = do
+  ask ← ask_at total bytes
+  what ← what_at kind total ask.1
+  ended (record { ask = ask.0; what = what.0 }) total what.1
+
+-- the kinds of requests
+abbrev pub is_asking : ℕ → Bool
+is_asking kind = (kind == 1) || (kind == 2)
+
+-- the kinds of replies
+abbrev pub is_answering : ℕ → Bool
+is_answering kind = (kind == 129) || (kind == 130) || (kind == 134)
+
+-- the request that a message is, or its first fault
+unfoldable pub request_of : List ℕ → Result Request WireFault
+request_of [] = Err (Body 0)
+request_of (kind ∷ bytes) = if is_asking kind then request_at kind (suc (length bytes)) bytes else Err (Kind kind)
+
+-- the reply that a message is, or its first fault
+unfoldable pub reply_of : List ℕ → Result Reply WireFault
+reply_of [] = Err (Body 0)
+reply_of (kind ∷ bytes) = if is_answering kind then reply_at kind (suc (length bytes)) bytes else Err (Kind kind)
+
+-- what was read, if no fault was
+abbrev pub if_read : {A : Type 0} → Result A WireFault → Option A
+if_read (Ok x) = Some x
+if_read (Err e) = None
+
+-- the request of a frame's message
+abbrev pub request_or_none : Option (List ℕ) → Option Request
+request_or_none None = None
+request_or_none (Some message) = if_read (request_of message)
+
+-- the reply of a frame's message
+abbrev pub reply_or_none : Option (List ℕ) → Option Reply
+reply_or_none None = None
+reply_or_none (Some message) = if_read (reply_of message)
+
+-- the request that bytes say, where they are one whole frame of a request
+abbrev pub request_in : List ℕ → Option Request
+request_in bytes = request_or_none (message_in bytes)
+
+-- the reply that bytes say, where they are one whole frame of a reply
+abbrev pub reply_in : List ℕ → Option Reply
+reply_in bytes = reply_or_none (message_in bytes)

@@ -1,0 +1,181 @@
+-- The one spelling of each message, and the ranges of its fields. Numbers are written with the highest byte first.
+use Rattle.std.specs.Prelude.{ℕ, zero, suc, ◌≡◌, ◌<◌, ◌≤◌, ◌+◌, ◌*◌, ◌/◌, ◌^◌, Bool, List, [], ◌∷◌, ◌++◌, length, map, take, drop, if◌then◌else◌}
+use Rattle.std.specs.List.{flat_map, AllByRecursion}
+use Rattle.std.specs.List.Sorted.{IsStrictlyIncreasing}
+use Rattle.std.specs.Int.{w16, w32, w64, to_be_bytes}
+use Rattle.dory_base.specs.Dims.{Dims, IsDims}
+use Rattle.dory_base.specs.TagBytes.{tag_bytes}
+use Rattle.dory_base.specs.declared.ids.AskId.{AskId}
+use Rattle.dory_base.specs.declared.ids.UpdateId.{UpdateId}
+use Rattle.dory_base.specs.declared.found.Place.{Place}
+use Rattle.dory_base.specs.declared.found.Sum.{Sum}
+use Rattle.dory_base.specs.declared.found.Found.{Found}
+use Rattle.dory_base.specs.declared.refusal.Refusal.{Refusal}
+use Rattle.dory_base.specs.declared.refusal.Refusal.TheVariants.{NoFolder, ShapeWrong, Unretained, BadMember, Past, Clash, Unfinished, Unstaged, Taken, Gap, WrongRole, HistoryFull, NoEntry, NoMemory}
+use Rattle.dory_wire.specs.declared.message.Want.{Want}
+use Rattle.dory_wire.specs.declared.message.Want.TheVariants.{Latest, Search}
+use Rattle.dory_wire.specs.declared.message.What.{What}
+use Rattle.dory_wire.specs.declared.message.What.TheVariants.{At, Found as Finds, Refused}
+use Rattle.dory_wire.specs.declared.message.Request.{Request}
+use Rattle.dory_wire.specs.declared.message.Reply.{Reply}
+
+-- a number in four bytes
+abbrev pub four : ℕ → List ℕ
+four n = to_be_bytes w32 n
+
+-- an ask: the member, the serial and the step
+abbrev pub ask : AskId → List ℕ
+ask a = four a.member.0 ++ to_be_bytes w64 a.serial ++ four a.step
+
+-- an update's id: the member and the serial
+abbrev pub id : UpdateId → List ℕ
+id i = four i.member.0 ++ to_be_bytes w64 i.serial
+
+-- eight bits as a byte, the first of them the lowest
+abbrev pub byte : List Bool → ℕ
+byte [] = 0
+byte (b ∷ bits) = (if b then 1 else 0) + 2 * byte bits
+
+-- as many bytes, of eight bits each
+abbrev pub bytes_of : ℕ → List Bool → List ℕ
+bytes_of zero bits = []
+bytes_of (suc n) bits = byte (take 8 bits) ∷ bytes_of n (drop 8 bits)
+
+-- how many bytes so many bits take
+abbrev pub packed_len : ℕ → ℕ
+packed_len n = (n + 7) / 8
+
+-- bits in bytes: bit j is bit j mod 8 of byte j div 8, with zero bits after the last
+abbrev pub packed : List Bool → List ℕ
+packed bits = bytes_of (packed_len (length bits)) bits
+
+-- a line of a manifest
+abbrev pub line : Place → List ℕ
+line p = to_be_bytes w16 p.slot ++ four p.doc.0 ++ id p.id
+
+-- a domain's answer to one probe
+abbrev pub sum : Sum → List ℕ
+sum s = packed s.bits ++ tag_bytes s.tag
+
+-- what a version holds: its number, the lines and the sums, each with their count before them
+abbrev pub found : Found → List ℕ
+found f = four f.version ++ to_be_bytes w16 (length f.manifest) ++ flat_map line f.manifest ++ length f.sums ∷ flat_map sum f.sums
+
+-- a refusal's code and its fields; the others have no message yet
+abbrev pub refusal : Refusal → List ℕ
+refusal NoFolder = 1 ∷ []
+refusal (ShapeWrong depth probes) = 2 ∷ depth ∷ probes ∷ []
+refusal (Unretained oldest newest) = 3 ∷ four oldest ++ four newest
+refusal (BadMember member) = []
+refusal (Past last) = []
+refusal (Clash id) = []
+refusal (Unfinished id) = []
+refusal (Unstaged id) = []
+refusal (Taken number id) = []
+refusal (Gap length) = []
+refusal (WrongRole role) = []
+refusal HistoryFull = []
+refusal (NoEntry length) = []
+refusal NoMemory = 14 ∷ []
+
+-- the first byte of a request's message
+abbrev pub want_kind : Want → ℕ
+want_kind Latest = 1
+want_kind (Search version shape keys) = 2
+
+-- what is asked, after the folder. 240 is the form in which each probe is its column
+abbrev pub want : Want → List ℕ
+want Latest = []
+want (Search version shape keys) = four version ++ shape.depth ∷ shape.probes ∷ 240 ∷ flat_map (to_be_bytes w16) keys
+
+-- the first byte of a reply's message
+abbrev pub what_kind : What → ℕ
+what_kind (At length) = 129
+what_kind (Finds f) = 130
+what_kind (Refused code) = 134
+
+-- what is answered, after the ask
+abbrev pub what : What → List ℕ
+what (At length) = four length
+what (Finds f) = found f
+what (Refused code) = refusal code
+
+-- a request's message
+unfoldable pub spelling_of_request : Request → List ℕ
+spelling_of_request r = want_kind r.want ∷ ask r.ask ++ four r.folder.0 ++ want r.want
+
+-- a reply's message
+unfoldable pub spelling_of_reply : Reply → List ℕ
+spelling_of_reply r = what_kind r.what ∷ ask r.ask ++ what r.what
+
+-- the ranges of an ask
+pub record IsAsk (a : AskId) : Type 0 where
+  pub member : a.member.0 < 2 ^ 32
+  pub serial : a.serial < 2 ^ 64
+  pub step : a.step < 2 ^ 32
+
+-- the ranges of a manifest's line
+pub record IsLine (p : Place) : Type 0 where
+  pub slot : p.slot < 4096
+  pub doc : p.doc.0 < 2 ^ 32
+  pub member : p.id.member.0 < 2 ^ 32
+  pub some : 1 ≤ p.id.serial
+  pub serial : p.id.serial < 2 ^ 64
+
+-- a bit for each line, and a tag of sixteen bytes
+pub record IsSum (lines : ℕ) (s : Sum) : Type 0 where
+  pub bits : length s.bits ≡ lines
+  pub tag : s.tag < 2 ^ 128
+
+-- the ranges of what a version holds
+pub record IsFound (f : Found) : Type 0 where
+  pub version : f.version ≤ 1048576
+  pub lines : AllByRecursion IsLine f.manifest
+  pub rising : IsStrictlyIncreasing (map (λ p. p.slot) f.manifest)
+  pub many : length f.manifest ≤ 4096
+  pub probes : length f.sums ≤ 8
+  pub sums : AllByRecursion (IsSum (length f.manifest)) f.sums
+
+-- as many columns as probes, each within the row
+pub record AreColumns (shape : Dims) (keys : List ℕ) : Type 0 where
+  pub many : length keys ≡ shape.probes
+  pub each : AllByRecursion (λ c. c < 2 ^ shape.depth) keys
+
+-- the ranges of what is asked
+abbrev pub IsWant : Want → Type 0
+IsWant Latest = Unit {0}
+IsWant (Search version shape keys) = (version ≤ 1048576) × IsDims shape × AreColumns shape keys
+
+-- the ranges of a refusal that has a message
+abbrev pub IsRefusal : Refusal → Type 0
+IsRefusal NoFolder = Unit {0}
+IsRefusal (ShapeWrong depth probes) = (8 ≤ depth) × (depth ≤ 11) × (1 ≤ probes) × (probes ≤ 8)
+IsRefusal (Unretained oldest newest) = (oldest ≤ 1048576) × (newest ≤ 1048576)
+IsRefusal (BadMember member) = ⊥
+IsRefusal (Past last) = ⊥
+IsRefusal (Clash id) = ⊥
+IsRefusal (Unfinished id) = ⊥
+IsRefusal (Unstaged id) = ⊥
+IsRefusal (Taken number id) = ⊥
+IsRefusal (Gap length) = ⊥
+IsRefusal (WrongRole role) = ⊥
+IsRefusal HistoryFull = ⊥
+IsRefusal (NoEntry length) = ⊥
+IsRefusal NoMemory = Unit {0}
+
+-- the ranges of what is answered
+abbrev pub IsWhat : What → Type 0
+IsWhat (At length) = length ≤ 1048576
+IsWhat (Finds f) = IsFound f
+IsWhat (Refused code) = IsRefusal code
+
+-- a request that has a message
+pub record IsRequest (r : Request) : Type 0 where
+  pub ask : IsAsk r.ask
+  pub folder : r.folder.0 < 2 ^ 32
+  pub want : IsWant r.want
+
+-- a reply that has a message
+pub record IsReply (r : Reply) : Type 0 where
+  pub ask : IsAsk r.ask
+  pub what : IsWhat r.what

@@ -1,0 +1,22 @@
+//! Messages between a member and a domain: what they are, their one spelling in bytes, and the reading of any bytes.
+#![tactic(auto)]
+
+mod answered;
+mod asked;
+mod decode;
+mod encode;
+mod fault;
+mod field;
+mod frame;
+mod message;
+mod packed;
+mod spell;
+
+pub use decode::{decode_reply, decode_request};
+pub use encode::{encode_reply, encode_request};
+pub use fault::WireFault;
+pub use frame::whole_message;
+pub use message::{Reply, Request, Want, What};
+
+#[cfg(test)]
+mod tests;

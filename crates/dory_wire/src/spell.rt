@@ -1,0 +1,175 @@
+//! Writers of the parts of a message. Each adds a part's spelling at the end of what is written so far.
+ghost use Rattle.std.specs.Prelude.{◌≡◌, ◌++◌, ◌∷◌, ◌<◌, ◌≤◌, ◌+◌, ◌*◌, ◌/◌, ◌%◌, ◌^◌, [], IfOk, OnOk, length, slice_index};
+ghost use Rattle.std.specs.List.{flat_map};
+ghost use Rattle.std.specs.Int.{w16, to_be_bytes};
+ghost use Rattle.dory_wire.specs.Spelling.{ask, four, found, id, line, packed, refusal, sum, want, want_kind, what, what_kind, IsFound, IsWhat};
+
+use crate::message::{Want, What};
+use dory_base::{AskId, Bits, Found, NoMemory, Place, Refusal, Sum, UpdateId};
+
+pub fn put_u32(out: &mut Vec<u8>, n: u32) -> Result<(), NoMemory>
+    ensures { OnOk result (out.new.items ≡ out.old.items ++ four n) }
+{
+    out.extend_from_slice(&n.to_be_bytes())?;
+    Ok(())
+}
+
+pub fn put_ask(out: &mut Vec<u8>, asked: &AskId) -> Result<(), NoMemory>
+    ensures { OnOk result (out.new.items ≡ out.old.items ++ ask asked.now) }
+{
+    put_u32(out, asked.member.0)?;
+    out.extend_from_slice(&asked.serial.to_be_bytes())?;
+    put_u32(out, asked.step)
+}
+
+fn put_id(out: &mut Vec<u8>, name: &UpdateId) -> Result<(), NoMemory>
+    ensures { OnOk result (out.new.items ≡ out.old.items ++ id name.now) }
+{
+    put_u32(out, name.member.0)?;
+    out.extend_from_slice(&name.serial.to_be_bytes())?;
+    Ok(())
+}
+
+fn put_columns(out: &mut Vec<u8>, columns: &[u16]) -> Result<(), NoMemory>
+    ensures { OnOk result (out.new.items ≡ out.old.items ++ flat_map (to_be_bytes w16) columns.now) }
+{
+    for column in columns {
+        out.extend_from_slice(&column.to_be_bytes())?;
+    }
+    Ok(())
+}
+
+pub fn put_want(out: &mut Vec<u8>, wanted: &Want) -> Result<(), NoMemory>
+    ensures { OnOk result (out.new.items ≡ out.old.items ++ want wanted.now) }
+{
+    match wanted {
+        Want::Latest => Ok(()),
+        Want::Search {
+            version,
+            shape,
+            keys,
+        } => {
+            put_u32(out, *version)?;
+            out.push(shape.depth())?;
+            out.push(shape.probes())?;
+            out.push(0xf0)?;
+            put_columns(out, keys.items())
+        }
+    }
+}
+
+pub fn kind_of_want(wanted: &Want) -> u8
+    ensures { result ≡ want_kind wanted.now }
+{
+    match wanted {
+        Want::Latest => 1,
+        Want::Search { .. } => 2,
+    }
+}
+
+fn put_line(out: &mut Vec<u8>, place: &Place) -> Result<(), NoMemory>
+    ensures { OnOk result (out.new.items ≡ out.old.items ++ line place.now) }
+{
+    out.extend_from_slice(&place.slot.to_be_bytes())?;
+    put_u32(out, place.doc.0)?;
+    put_id(out, &place.id)
+}
+
+fn put_lines(out: &mut Vec<u8>, places: &[Place]) -> Result<(), NoMemory>
+    ensures { OnOk result (out.new.items ≡ out.old.items ++ flat_map line places.now) }
+{
+    for place in places {
+        put_line(out, place)?;
+    }
+    Ok(())
+}
+
+fn byte_of(words: &[u64], place: usize) -> u8
+    requires { place / 8 < length words.now }
+    ensures { result ≡ slice_index words.now (place / 8) / 2 ^ (8 * (place % 8)) % 2 ^ 8 }
+{
+    ((words[place / 8] >> (8 * (place % 8))) % 256) as u8
+}
+
+fn put_bits(out: &mut Vec<u8>, bits: &Bits) -> Result<(), NoMemory>
+    ensures { OnOk result (out.new.items ≡ out.old.items ++ packed bits.now) }
+{
+    let words = bits.words();
+    for place in 0..(bits.len() + 7) / 8 {
+        out.push(byte_of(words, place))?;
+    }
+    Ok(())
+}
+
+fn put_sum(out: &mut Vec<u8>, answer: &Sum) -> Result<(), NoMemory>
+    ensures { OnOk result (out.new.items ≡ out.old.items ++ sum answer.now) }
+{
+    put_bits(out, &answer.bits)?;
+    out.extend_from_slice(&answer.tag.bytes())?;
+    Ok(())
+}
+
+fn put_sums(out: &mut Vec<u8>, sums: &[Sum]) -> Result<(), NoMemory>
+    ensures { OnOk result (out.new.items ≡ out.old.items ++ flat_map sum sums.now) }
+{
+    for answer in sums {
+        put_sum(out, answer)?;
+    }
+    Ok(())
+}
+
+fn put_found(out: &mut Vec<u8>, holding: &Found) -> Result<(), NoMemory>
+    requires { IsFound holding.now }
+    ensures { OnOk result (out.new.items ≡ out.old.items ++ found holding.now) }
+{
+    let places = holding.manifest.items();
+    let sums = holding.sums.items();
+    put_u32(out, holding.version)?;
+    out.extend_from_slice(&(places.len() as u16).to_be_bytes())?;
+    put_lines(out, places)?;
+    out.push(sums.len() as u8)?;
+    put_sums(out, sums)
+}
+
+fn put_refusal(out: &mut Vec<u8>, code: &Refusal) -> Result<(), NoMemory>
+    ensures { OnOk result (out.new.items ≡ out.old.items ++ refusal code.now) }
+{
+    match code {
+        Refusal::NoFolder => out.push(1)?,
+        Refusal::ShapeWrong { depth, probes } => {
+            out.push(2)?;
+            out.push(*depth)?;
+            out.push(*probes)?;
+        }
+        Refusal::Unretained { oldest, newest } => {
+            out.push(3)?;
+            put_u32(out, *oldest)?;
+            put_u32(out, *newest)?;
+        }
+        Refusal::NoMemory => out.push(14)?,
+        // The others have no message.
+        _ => {}
+    }
+    Ok(())
+}
+
+pub fn put_what(out: &mut Vec<u8>, answered: &What) -> Result<(), NoMemory>
+    requires { IsWhat answered.now }
+    ensures { OnOk result (out.new.items ≡ out.old.items ++ what answered.now) }
+{
+    match answered {
+        What::At { length } => put_u32(out, *length),
+        What::Found { found } => put_found(out, found),
+        What::Refused { code } => put_refusal(out, code),
+    }
+}
+
+pub fn kind_of_what(answered: &What) -> u8
+    ensures { result ≡ what_kind answered.now }
+{
+    match answered {
+        What::At { .. } => 0x81,
+        What::Found { .. } => 0x82,
+        What::Refused { .. } => 0x86,
+    }
+}
