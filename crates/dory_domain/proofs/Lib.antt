@@ -1,0 +1,8 @@
+pub mod Ones
+pub mod Digits
+pub mod Lists
+pub mod Selectors
+pub mod HeldLaws
+pub mod FoundLaws
+pub mod ConfigLaws
+pub mod SerialLaws

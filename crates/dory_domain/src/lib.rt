@@ -1,0 +1,18 @@
+//! A domain as a pure core: its folders with their histories, and its answer to each request.
+#![tactic(auto)]
+
+mod config;
+mod domain_core;
+mod folder;
+mod folders;
+mod parity;
+mod probes;
+mod sums;
+#[cfg(test)]
+mod tests;
+
+pub use config::{ConfigFault, FolderConfig, OpenFault};
+pub use domain_core::DomainCore;
+pub use folder::Folder;
+pub use folders::Folders;
+pub use sums::sum;
