@@ -1,0 +1,103 @@
+-- What a link tells: the exchanges over it, and the folders of the domain behind it.
+use Rattle.std.specs.Prelude.{ℕ, ◌≡◌, ⊤, ◌⊎◌, List, [], ◌∷◌, ◌++◌, Option, Some, None, Result, Ok, Err, Vec, option_map}
+use Rattle.std.specs.declared.alloc.Global.{Global}
+use Rattle.dory_base.specs.Dims.{Dims}
+use Rattle.dory_base.specs.declared.entry.Entry.{Entry}
+use Rattle.dory_base.specs.declared.refusal.Refusal.TheVariants.{NoFolder}
+use Rattle.dory_base.specs.History.{IsPrefix}
+use Rattle.dory_wire.specs.declared.message.Want.{Want}
+use Rattle.dory_wire.specs.declared.message.What.{What}
+use Rattle.dory_wire.specs.declared.message.What.TheVariants.{Refused}
+use Rattle.dory_wire.specs.declared.message.Request.{Request}
+use Rattle.dory_link.specs.declared.exchange.Exchange.{Exchange}
+use Rattle.dory_link.specs.declared.link.LinkError.{LinkError}
+use Rattle.dory_link.specs.declared.link.LinkError.TheVariants as link
+use Rattle.dory_wire.specs.Reading.{request_in, reply_in}
+use Rattle.dory_wire.specs.Read.{read_of, IsReadAs}
+
+-- a folder of the peer: its shape, how many versions it keeps, and what is committed
+pub record Told : Type 0 where
+  pub shape : Dims
+  pub retained : ℕ
+  pub history : List Entry
+
+-- a request that was asked, and the frame that came
+pub record Talk : Type 0 where
+  pub request : List ℕ
+  pub reply : Option (List ℕ)
+
+-- the exchange of this request and this reply
+abbrev pub talk : List ℕ → Option (List ℕ) → Talk
+talk request reply = record { request = request; reply = reply }
+
+-- the bytes of a frame that came
+abbrev pub frames : {E : Type 0} → Result (Vec ℕ Global) E → Result (List ℕ) E
+frames (Ok frame) = Ok frame.items
+frames (Err e) = Err e
+
+-- The exchanges after an ask. One that finds no memory adds nothing, or its request.
+abbrev pub Adds : Option (List Talk) → Option (List Talk) → List ℕ → Result (List ℕ) LinkError → Type 0
+Adds None now request result = ⊤
+Adds (Some before) None request result = ⊥
+Adds (Some before) (Some now) request (Ok frame) = now ≡ before ++ talk request (Some frame) ∷ []
+Adds (Some before) (Some now) request (Err link.Failed) = now ≡ before ++ talk request None ∷ []
+Adds (Some before) (Some now) request (Err link.NoMemory) = (now ≡ before) ⊎ (now ≡ before ++ talk request None ∷ [])
+
+-- the shape and the number of versions stay, and the history only grows
+pub record GrownFrom (before now : Told) : Type 0 where
+  pub shape : now.shape ≡ before.shape
+  pub retained : now.retained ≡ before.retained
+  pub history : IsPrefix before.history now.history
+
+-- the same folder is there before and now, grown
+abbrev pub Grown : Option Told → Option Told → Type 0
+Grown None None = ⊤
+Grown None (Some now) = ⊥
+Grown (Some before) None = ⊥
+Grown (Some before) (Some now) = GrownFrom before now
+
+-- the same folders are told before and now, each grown
+abbrev pub Grows : Option (ℕ → Option Told) → Option (ℕ → Option Told) → Type 0
+Grows None now = ⊤
+Grows (Some before) None = ⊥
+Grows (Some before) (Some now) = (folder : ℕ) → Grown (before folder) (now folder)
+
+-- the reply that a domain with this history may give
+pub record IsReadAt (before now : Told) (want : Want) (what : What) (history : List Entry) : Type 0 where
+  pub later : IsPrefix before.history history
+  pub earlier : IsPrefix history now.history
+  pub value : IsReadAs (read_of before.shape before.retained history want) what
+
+-- what a folder answers: a value at a history between those before and after the call
+abbrev pub IsAnswer : Option Told → Option Told → Want → What → Type 0
+IsAnswer None now want what = what ≡ Refused NoFolder
+IsAnswer (Some before) None want what = ⊥
+IsAnswer (Some before) (Some now) want what = (history : List Entry) × IsReadAt before now want what history
+
+-- the frame is a reply to the request that was sent
+abbrev pub Answers : Option (ℕ → Option Told) → Option (ℕ → Option Told) → List ℕ → List ℕ → Type 0
+Answers None now sent frame = ⊤
+Answers (Some before) None sent frame = ⊥
+Answers (Some before) (Some now) sent frame =
+    (request : Request) → request_in sent ≡ Some request →
+    (what : What) × (reply_in frame ≡ Some (record { ask = request.ask; what = what })) × IsAnswer (before request.folder.0) (now request.folder.0) request.want what
+
+-- what a link tells, each part where it tells it: the exchanges, and the peer's folders by their numbers
+pub record Heard : Type 0 where
+  pub exchanges : Option (List Talk)
+  pub folders : Option (ℕ → Option Told)
+
+-- where a frame came, it is a reply to the request that was sent
+abbrev pub CameFrom : {E : Type 0} → Option (ℕ → Option Told) → Option (ℕ → Option Told) → List ℕ → Result (List ℕ) E → Type 0
+CameFrom before now sent (Ok frame) = Answers before now sent frame
+CameFrom before now sent (Err e) = ⊤
+
+-- an ask adds to the exchanges, histories only grow, and what came is a reply by a history between those before and after
+pub record IsAsked (before now : Heard) (sent : List ℕ) (result : Result (List ℕ) LinkError) : Type 0 where
+  pub added : Adds before.exchanges now.exchanges sent result
+  pub grown : Grows before.folders now.folders
+  pub answers : CameFrom before.folders now.folders sent result
+
+-- an exchange as it is told
+abbrev pub told_exchange : Exchange → Talk
+told_exchange e = talk e.request.items (option_map (λ frame. frame.items) e.reply)

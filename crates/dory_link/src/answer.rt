@@ -1,0 +1,49 @@
+//! The frame by which a domain's core answers a frame.
+ghost use Rattle.std.specs.Prelude.{◌≡◌, Some, None, IfOk, IsErrOf};
+ghost use Rattle.dory_wire.specs.declared.message.Request.{Request as Asked};
+ghost use Rattle.dory_wire.specs.Reading.{request_in};
+ghost use Rattle.dory_link.specs.Told.{Answers};
+ghost use Rattle.dory_link.specs.Folders.{told_folders};
+
+use dory_domain::DomainCore;
+use dory_wire::{WireFault, decode_request, encode_reply, whole_message};
+use std::alloc::Global;
+
+/// Why a frame isn't answered.
+#[derive(Clone, Copy, Debug, PartialEq, Eq)]
+pub enum AnswerError {
+    /// It is no request.
+    NoRequest,
+    NoMemory,
+}
+
+/// The frame that answers a request, twice.
+pub fn answer(
+    alloc: Global,
+    core: &mut DomainCore,
+    request: &[u8],
+) -> Result<(Vec<u8>, Vec<u8>), AnswerError>
+    ensures unchanged { core.new ≡ core.old }
+    ensures copied { IfOk result (λ frames. frames.1.items ≡ frames.0.items) }
+    ensures answers { IfOk result (λ frames. let told = told_folders core.old.folders in Answers (Some told) (Some told) request.now frames.0.items) }
+    ensures read { IfOk result (λ _. (asked : Asked) × (request_in request.now ≡ Some asked)) }
+    ensures unread { IsErrOf result AnswerError.NoRequest → request_in request.now ≡ None }
+{
+    let Some(message) = whole_message(request) else {
+        return Err(AnswerError::NoRequest);
+    };
+    let asked = match decode_request(alloc, message) {
+        Ok(asked) => asked,
+        Err(WireFault::NoMemory) => return Err(AnswerError::NoMemory),
+        Err(_) => return Err(AnswerError::NoRequest),
+    };
+    let reply = core.step(alloc, &asked);
+    let frame = match encode_reply(alloc, &reply) {
+        Ok(frame) => frame,
+        Err(_) => return Err(AnswerError::NoMemory),
+    };
+    match frame.as_slice().to_vec(alloc) {
+        Ok(copy) => Ok((frame, copy)),
+        Err(_) => Err(AnswerError::NoMemory),
+    }
+}

@@ -1,0 +1,76 @@
+//! A link to a domain's core in memory, which answers as a domain that is honest.
+ghost use Rattle.std.specs.Prelude.{◌≡◌, [], Some, map, IfOk};
+ghost use Rattle.dory_link.specs.Folders.{told_folders};
+
+use crate::answer::{AnswerError, answer};
+use crate::exchange::{Exchange, keep};
+use crate::link::{Link, LinkError};
+use dory_base::NoMemory;
+use dory_domain::DomainCore;
+use dory_io::Fails;
+use std::alloc::Global;
+
+/// Sends each frame through the core, tells the core's folders and keeps the exchanges. A frame that is no request is
+/// a fault of the link.
+#[derive(Drop)]
+pub struct DomainLink {
+    core: DomainCore,
+    exchanges: Vec<Exchange>,
+    fails: Fails,
+}
+
+impl DomainLink {
+    /// A link to this core, whose listed calls, counted from 1, are to fail.
+    pub fn new(alloc: Global, core: DomainCore, fails: &[u64]) -> Result<DomainLink, NoMemory>
+        ensures core { IfOk result (λ l. l.core ≡ core) }
+        ensures exchanges { IfOk result (λ l. l.exchanges.items ≡ []) }
+        ensures calls { IfOk result (λ l. l.fails.calls ≡ 0) }
+        ensures listed { IfOk result (λ l. l.fails.listed.items ≡ fails.now) }
+        ensures faults { IfOk result (λ l. l.fails.faults ≡ 0) }
+    {
+        let fails = fails.to_vec(alloc)?;
+        Ok(DomainLink {
+            core,
+            exchanges: Vec::new(alloc),
+            fails: Fails::new(fails),
+        })
+    }
+
+    /// The exchanges, in order.
+    pub fn exchanges(&self) -> &[Exchange]
+        ensures { result.now ≡ self.now.exchanges.items }
+    {
+        &self.exchanges
+    }
+}
+
+impl Link for DomainLink {
+    ghost use Rattle.dory_link.specs.Told.{told_exchange};
+
+    ghost heard = { λ l. record {
+      exchanges = Some (map told_exchange l.exchanges.items);
+      folders = Some (told_folders l.core.folders);
+    } };
+
+    ghost faults = { λ l. l.fails.faults };
+
+    fn ask(&mut self, alloc: Global, request: &[u8]) -> Result<Vec<u8>, LinkError> {
+        let asked = request.to_vec(alloc).map_err(|_| LinkError::NoMemory)?;
+        if self.fails.call() {
+            keep(&mut self.exchanges, asked, None)?;
+            return Err(LinkError::Failed);
+        }
+        match answer(alloc, &mut self.core, request) {
+            Ok((frame, copy)) => {
+                keep(&mut self.exchanges, asked, Some(copy))?;
+                Ok(frame)
+            }
+            Err(AnswerError::NoRequest) => {
+                self.fails.count();
+                keep(&mut self.exchanges, asked, None)?;
+                Err(LinkError::Failed)
+            }
+            Err(AnswerError::NoMemory) => Err(LinkError::NoMemory),
+        }
+    }
+}
