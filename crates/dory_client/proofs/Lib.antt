@@ -1,0 +1,10 @@
+pub mod WriteLemmas
+pub mod Asks
+pub mod Courses
+pub mod PlainWords
+pub mod Listing
+pub mod Right
+pub mod Replied
+pub mod Passes
+pub mod Complete
+pub mod Ends

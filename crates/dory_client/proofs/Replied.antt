@@ -1,0 +1,49 @@
+-- What comes from a link that tells the folder of a state.
+use Rattle.std.proofs.Common.{◌≡◌, ℕ, ◌≤◌, List, length, take, Option, Some, None, ap, refl, ◌∙◌, subst, arith, length-append}
+use Rattle.std.proofs.lemmas.List.{take-append-le}
+use Rattle.dory_base.specs.declared.entry.Entry.{Entry}
+use Rattle.dory_base.specs.History.{IsPrefix, version_of}
+use Rattle.dory_wire.specs.declared.message.What.{What}
+use Rattle.dory_wire.specs.declared.message.Request.{Request}
+use Rattle.dory_wire.specs.Reading.{reply_in}
+use Rattle.dory_link.specs.Told.{Told, IsReadAt, IsAnswer, GrownFrom, Grown, Grows}
+use Rattle.dory_client.specs.Asked.{Replies}
+use Rattle.dory_client.specs.Complete.{TellsFolder}
+
+-- a frame answers a request by one of the histories between these two
+pub record IsReplied (before now : Told) (request : Request) (frame : List ℕ) : Type 0 where
+  pub what : What
+  pub history : List Entry
+  pub replied : reply_in frame ≡ Some (record { ask = request.ask; what = what })
+  pub at : IsReadAt before now request.want what history
+
+pub longer : (a b : List Entry) → IsPrefix a b → length a ≤ length b
+longer a b (more, is) = omega (arith, ap length is, length-append a more)
+
+-- a version that a history has stays as it is in a longer one
+pub same_version : (a b : List Entry) (number : ℕ) → number ≤ length a → IsPrefix a b → version_of number b ≡ version_of number a
+same_version a b number few (more, is) = ap (take number) is ∙ take-append-le number a more few
+
+grown_folder : (a b : Option Told) (x : Told) → a ≡ Some x → Grown a b → (y : Told) × (b ≡ Some y) × GrownFrom x y
+grown_folder None b x e g = absurd (cc)
+grown_folder (Some w) None x e g = absurd g
+grown_folder (Some w) (Some y) x e g = let same : w ≡ x = cc in (y, refl, subst (λ (t : Told). GrownFrom t y) same g)
+
+-- a folder that is told stays told, grown
+pub grown_told : (before now : Option (ℕ → Option Told)) (number : ℕ) (x : Told) → TellsFolder before number x → Grows before now → (y : Told) × TellsFolder now number y × GrownFrom x y
+grown_told None now number x told g = absurd told
+grown_told (Some before) None number x told g = absurd g
+grown_told (Some before) (Some now) number x told g = grown_folder (before number) (now number) x told (g number)
+
+by_folder : (before now : Option Told) (x y : Told) (request : Request) (what : What) (frame : List ℕ) → before ≡ Some x → now ≡ Some y → reply_in frame ≡ Some (record { ask = request.ask; what = what }) → IsAnswer before now request.want what → IsReplied x y request frame
+by_folder before now x y request what frame e i replied answer =
+    let by : IsAnswer (Some x) (Some y) request.want what =
+    subst (λ (o : Option Told). IsAnswer o (Some y) request.want what) e (subst (λ (o : Option Told). IsAnswer before o request.want what) i answer) in
+    record { what = what; history = by.0; replied = replied; at = by.1 }
+
+-- what came over a link that tells the folder
+pub replied_by : (before now : Option (ℕ → Option Told)) (x y : Told) (request : Request) (frame : List ℕ) → TellsFolder before request.folder.0 x → TellsFolder now request.folder.0 y → Replies before now request frame → IsReplied x y request frame
+replied_by None now x y request frame told told' replies = absurd told
+replied_by (Some before) None x y request frame told told' replies = absurd replies
+replied_by (Some before) (Some now) x y request frame told told' (what, replied, by) =
+    by_folder (before request.folder.0) (now request.folder.0) x y request what frame told told' replied by
