@@ -4,3 +4,9 @@ pub mod WordRun
 pub mod TableLaws
 pub mod Lines
 pub mod Selected
+pub mod SameBits
+pub mod SameLaws
+pub mod IdLaws
+pub mod LogLaws
+pub mod StepLaws
+pub mod HexText

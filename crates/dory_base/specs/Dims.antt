@@ -1,5 +1,5 @@
 -- The two numbers of a shape.
-use Rattle.std.specs.Prelude.{ℕ, ◌≤◌}
+use Rattle.std.specs.Prelude.{ℕ, ◌≤◌, ◌==◌, ◌&&◌, Bool}
 
 -- the depth of the tree over a row's columns, and how many positions a word has
 pub record Dims : Type 0 where
@@ -12,3 +12,7 @@ pub record IsDims (d : Dims) : Type 0 where
   pub high : d.depth ≤ 11
   pub some : 1 ≤ d.probes
   pub few : d.probes ≤ 8
+
+-- two shapes are one
+abbrev pub same_shape : Dims → Dims → Bool
+same_shape s t = (s.depth == t.depth) && (s.probes == t.probes)

@@ -17,6 +17,11 @@ abbrev pub IsChangeOf : Dims → Change → Type 0
 IsChangeOf shape (Post posted row tags) = IsPostOf shape posted (length row) (length tags)
 IsChangeOf shape Remove = Unit {0}
 
+-- a post whose row and tags have its own shape, or a removal
+abbrev pub IsWhole : Change → Type 0
+IsWhole (Post posted row tags) = IsPostOf posted posted (length row) (length tags)
+IsWhole Remove = Unit {0}
+
 -- what may be committed in a folder of this shape
 pub record IsEntryOf (shape : Dims) (e : Entry) : Type 0 where
   pub serial : 1 ≤ e.id.serial

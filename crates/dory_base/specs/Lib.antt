@@ -11,3 +11,6 @@ pub mod Words
 pub mod WordKept
 pub mod TableMeaning
 pub mod Texts
+pub mod SameUpdate
+pub mod Log
+pub mod Step

@@ -1,6 +1,8 @@
 -- How ids, sides and refusals are printed.
-use Rattle.std.specs.Prelude.{ℕ, List, [], ◌∷◌, ◌++◌, codes}
-use Rattle.std.specs.Fmt.{decimal}
+use Rattle.std.specs.Prelude.{ℕ, ◌/◌, ◌%◌, false, List, [], ◌∷◌, ◌++◌, codes}
+use Rattle.std.specs.List.{flat_map}
+use Rattle.std.specs.Fmt.{decimal, digit_glyph}
+use Rattle.dory_base.specs.TagBytes.{tag_bytes}
 use Rattle.dory_base.specs.declared.ids.Side.{Side}
 use Rattle.dory_base.specs.declared.ids.Side.TheVariants.{Lead, Follow}
 use Rattle.dory_base.specs.declared.ids.UpdateId.{UpdateId}
@@ -20,6 +22,14 @@ id_text i = decimal i.member.0 ++ codes "." ++ decimal i.serial
 -- an ask as `member.serial.step`
 abbrev pub ask_text : AskId → List ℕ
 ask_text a = decimal a.member.0 ++ codes "." ++ decimal a.serial ++ codes "." ++ decimal a.step
+
+-- a byte as two lower-case hexadecimal digits
+abbrev pub byte_text : ℕ → List ℕ
+byte_text b = digit_glyph false (b / 16) ∷ digit_glyph false (b % 16) ∷ []
+
+-- a tag as its sixteen bytes
+unfoldable pub tag_text : ℕ → List ℕ
+tag_text tag = flat_map byte_text (tag_bytes tag)
 
 -- a refusal: its name in lower case, and its fields, each after a space
 abbrev pub refusal_text : Refusal → List ℕ

@@ -1,5 +1,5 @@
 //! A list of bits, kept in words of 64 so that a scan goes over whole words.
-ghost use Rattle.std.specs.Prelude.{◌≡◌, ℕ, Bool, false, ◌+◌, ◌/◌, ◌%◌, ◌^◌, ◌<◌, ◌≤◌, cond, length, replicate, slice_index_or, slice_set, vec_len, IfOk, ◌≢◌, ◌*◌, bit_xor};
+ghost use Rattle.std.specs.Prelude.{◌≡◌, ℕ, Bool, false, ◌+◌, ◌/◌, ◌%◌, ◌^◌, ◌<◌, ◌≤◌, cond, length, replicate, slice_index_or, slice_set, vec_len, IfOk, ◌≢◌, ◌*◌, ◌↔◌, IsTrue, bit_xor};
 ghost use Rattle.std.specs.Int.{bit_at};
 ghost use Rattle.std.specs.Simd.Lanes.{zip2};
 ghost use Rattle.dory_base.specs.Packed.{word_bit, bits_of};
@@ -46,6 +46,13 @@ impl Bits {
             words,
             len: self.len,
         })
+    }
+
+    /// Whether the two lists are equal.
+    pub fn same(&self, other: &Bits) -> bool
+        ensures { IsTrue result ↔ (self.now ≡ other.now) }
+    {
+        self.len == other.len && same_words(&self.words, &other.words)
     }
 
     /// The number of bits.
@@ -98,6 +105,26 @@ impl Bits {
     {
         Bits { words, len }
     }
+}
+
+/// Whether the two words have the same bits.
+fn same_word(a: u64, b: u64) -> bool
+    ensures { IsTrue result ↔ ((k : ℕ) → k < 64 → bit_at a k ≡ bit_at b k) }
+{
+    a == b
+}
+
+/// Whether two lists of as many words show the same bits.
+fn same_words(a: &Vec<u64>, b: &Vec<u64>) -> bool
+    requires { length a.now.items ≡ length b.now.items }
+    ensures { IsTrue result ↔ ((j : ℕ) → word_bit a.now.items j ≡ word_bit b.now.items j) }
+{
+    for i in 0..a.len() {
+        if !same_word(a[i], b[i]) {
+            return false;
+        }
+    }
+    true
 }
 
 fn with_bit(word: u64, k: usize, bit: bool) -> u64

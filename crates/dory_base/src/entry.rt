@@ -1,5 +1,6 @@
 //! Updates of a folder: what a member posts or removes.
-ghost use Rattle.std.specs.Prelude.{◌≡◌, IfOk};
+ghost use Rattle.std.specs.Prelude.{◌≡◌, ◌↔◌, IfOk, IsTrue};
+ghost use Rattle.dory_base.specs.SameUpdate.{is_same_change, is_same_update};
 
 use crate::{Bits, DocId, NoMemory, Shape, Tag, UpdateId};
 use std::alloc::Global;
@@ -32,6 +33,21 @@ impl Tags {
         &self.tags
     }
 
+    /// Whether the two lists are equal.
+    pub fn same(&self, other: &Tags) -> bool
+        ensures { IsTrue result ↔ (self.now ≡ other.now) }
+    {
+        if self.tags.len() != other.tags.len() {
+            return false;
+        }
+        for i in 0..self.tags.len() {
+            if !self.tags[i].same(&other.tags[i]) {
+                return false;
+            }
+        }
+        true
+    }
+
     /// An equal list.
     pub fn copy(&self, alloc: Global) -> Result<Tags, NoMemory>
         ensures { IfOk result (λ tags. tags ≡ self.now) }
@@ -58,6 +74,34 @@ pub struct Entry {
 }
 
 impl Change {
+    /// Whether the two changes are equal.
+    pub fn same(&self, other: &Change) -> bool
+        ensures { result ≡ is_same_change self.now other.now }
+    {
+        match self {
+            Change::Remove => match other {
+                Change::Remove => true,
+                Change::Post { .. } => false,
+            },
+            Change::Post { shape, row, tags } => match other {
+                Change::Remove => false,
+                Change::Post {
+                    shape: posted,
+                    row: cells,
+                    tags: marks,
+                } => {
+                    if !shape.same(*posted) {
+                        return false;
+                    }
+                    if !row.same(cells) {
+                        return false;
+                    }
+                    tags.same(marks)
+                }
+            },
+        }
+    }
+
     /// An equal change.
     pub fn copy(&self, alloc: Global) -> Result<Change, NoMemory>
         ensures { IfOk result (λ change. change ≡ self.now) }
@@ -78,6 +122,13 @@ impl Change {
 }
 
 impl Entry {
+    /// Whether the two updates do the same to one document, whatever their ids.
+    pub fn same_update(&self, other: &Entry) -> bool
+        ensures { result ≡ is_same_update self.now other.now }
+    {
+        self.doc == other.doc && self.change.same(&other.change)
+    }
+
     /// An equal entry.
     pub fn copy(&self, alloc: Global) -> Result<Entry, NoMemory>
         ensures { IfOk result (λ entry. entry ≡ self.now) }

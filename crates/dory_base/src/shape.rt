@@ -23,7 +23,7 @@ impl Model for Shape {
 }
 
 impl Shape {
-    ghost use Rattle.dory_base.specs.Dims.{Dims, IsDims};
+    ghost use Rattle.dory_base.specs.Dims.{Dims, IsDims, same_shape};
 
     /// A depth of 8 to 11 and 1 to 8 probes.
     pub fn new(depth: u8, probes: u8) -> Option<Shape>
@@ -49,6 +49,13 @@ impl Shape {
         ensures range { IsDims self.now }
     {
         self.probes
+    }
+
+    /// Whether the two are one shape.
+    pub fn same(&self, other: Shape) -> bool
+        ensures { result ≡ same_shape self.now other }
+    {
+        self.depth == other.depth && self.probes == other.probes
     }
 
     /// The number of columns, 256 to 2,048.

@@ -23,6 +23,27 @@ impl Model for Tag {
     ghost inverse_ok = { λ a h. ap (λ bytes. record { 0 = bytes }) (tag_bytes-tag_number a.0 h) };
 }
 
+impl PartialEq for Tag {
+    ghost use Rattle.std.specs.Prelude.{◌==◌};
+    ghost use Rattle.std.proofs.Common.{rules};
+    ghost use Rattle.std.specs.Cmp.Rules.{comparing};
+
+    ghost eq = { λ a b. a == b };
+
+    ghost laws = { Prim.search (comparing, rules) };
+
+    fn eq(&self, other: &Tag) -> bool {
+        self.same(other)
+    }
+}
+
+impl Eq for Tag {
+    ghost use Rattle.std.proofs.Common.{rules};
+    ghost use Rattle.std.specs.Cmp.Rules.{comparing};
+
+    ghost laws = { Prim.search (comparing, rules) };
+}
+
 impl Tag {
     ghost use Rattle.dory_base.specs.TagBytes.{tag_number, tag_bytes};
 

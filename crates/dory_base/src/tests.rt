@@ -100,3 +100,39 @@ fn a_copied_update_is_equal(rt: HostRuntime) -> Result<(), Fail> {
     }
     Ok(())
 }
+
+#[test]
+fn lists_are_equal_only_whole(rt: HostRuntime) -> Result<(), Fail> {
+    let alloc = rt.alloc();
+    let zeros = Bits::zero(alloc, 70).ok().ok_or("memory")?;
+    let mut bits = Bits::zero(alloc, 70).ok().ok_or("memory")?;
+    assert!(rt; bits.same(&zeros));
+    bits.put(69, true);
+    assert!(rt; !bits.same(&zeros));
+    let one = Tags::of(vec![in alloc; Tag([1; 16]); 2].ok().ok_or("memory")?);
+    let two = Tags::of(vec![in alloc; Tag([1; 16]); 3].ok().ok_or("memory")?);
+    assert!(rt; one.same(&one));
+    assert!(rt; !one.same(&two));
+    Ok(())
+}
+
+#[test]
+fn updates_are_the_same_by_document_and_change(rt: HostRuntime) {
+    for (serial, doc, same) in [(1, 7, true), (2, 7, true), (1, 8, false)] {
+        let id = UpdateId {
+            member: MemberId(0),
+            serial,
+        };
+        let first = Entry {
+            id,
+            doc: DocId(7),
+            change: Change::Remove,
+        };
+        let other = Entry {
+            id,
+            doc: DocId(doc),
+            change: Change::Remove,
+        };
+        assert_eq!(rt; first.same_update(&other), same, "document {doc}");
+    }
+}
