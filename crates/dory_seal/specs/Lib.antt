@@ -1,0 +1,4 @@
+pub mod Epoch
+pub mod Message
+pub mod Runs
+pub mod Seal
