@@ -1,0 +1,11 @@
+pub mod Words
+pub mod SeedWords
+pub mod XorLaws
+pub mod Walks
+pub mod Children
+pub mod Paths
+pub mod KeyLaws
+pub mod Pair
+pub mod Levels
+pub mod Spelled
+pub mod XorBits
