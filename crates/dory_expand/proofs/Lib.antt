@@ -1,0 +1,4 @@
+pub mod Blocks
+pub mod Walked
+pub mod LeafWords
+pub mod Filled
