@@ -8,7 +8,7 @@ use Rattle.dory_base.specs.declared.ids.AskId.{AskId}
 use Rattle.dory_base.specs.declared.ids.UpdateId.{UpdateId}
 use Rattle.dory_wire.specs.declared.fault.WireFault.{WireFault}
 use Rattle.dory_wire.specs.declared.fault.WireFault.TheVariants.{Body}
-use Rattle.dory_wire.specs.Spelling.{four, ask, id, IsAsk}
+use Rattle.dory_wire.specs.Spelling.{four, ask, id, IsAsk, IsId}
 use Rattle.dory_wire.specs.Reading.{◌>>=◌, place, field_at, ranged, number_at, tested_at, byte_at, ask_at, id_at}
 
 abbrev pub IsBytes : List ℕ → Type 0
@@ -185,11 +185,6 @@ ask_again total a rest is =
     rw (field_again 16 total (ask a) rest (length-ask a)) (λ i. Ok (record { member = record { 0 = one i }; serial = two i; step = three i }, rest))
 
 -- ---- an update's id
-
-pub record IsId (i : UpdateId) : Type 0 where
-  pub member : i.member.0 < 2 ^ 32
-  pub some : 1 ≤ i.serial
-  pub serial : i.serial < 2 ^ 64
 
 pub id_takes : (total : ℕ) (bytes : List ℕ) (x : UpdateId × List ℕ) → IsBytes bytes → id_at total bytes ≡ Ok x → Takes bytes (id x.0) x.1 × IsId x.0
 unfolding id_at

@@ -24,7 +24,7 @@ length-tag_bytes n = refl
 halves : (n : ℕ) → n < 2 ^ 128 → (n / 2 ^ 64 < 2 ^ 64) × (n % 2 ^ 64 < 2 ^ 64) × (n / 2 ^ 64 * 2 ^ 64 + n % 2 ^ 64 ≡ n)
 halves n h = (omega arith, omega arith, omega arith)
 
-tag_again : (n : ℕ) → n < 2 ^ 128 → tag_number (tag_bytes n) ≡ n
+pub tag_again : (n : ℕ) → n < 2 ^ 128 → tag_number (tag_bytes n) ≡ n
 unfolding tag_number tag_bytes
 tag_again n h =
     let parts = halves n h in

@@ -7,21 +7,25 @@ use Rattle.std.specs.Int.{w16, to_be_bytes}
 use Rattle.std.proofs.lemmas.List.{length-append}
 use Rattle.std.proofs.lemmas.List.Concat.{flat_map-cons}
 use Rattle.dory_base.specs.TagBytes.{tag_bytes}
+use Rattle.dory_base.specs.declared.entry.Entry.{Entry}
+use Rattle.dory_base.specs.declared.entry.Change.{Change}
+use Rattle.dory_base.specs.declared.entry.Change.TheVariants.{Post, Remove}
 use Rattle.dory_base.specs.declared.found.Place.{Place}
 use Rattle.dory_base.specs.declared.found.Sum.{Sum}
 use Rattle.dory_base.specs.declared.found.Found.{Found}
 use Rattle.dory_base.specs.declared.refusal.Refusal.{Refusal}
 use Rattle.dory_base.specs.declared.refusal.Refusal.TheVariants.{NoFolder, ShapeWrong, Unretained, BadMember, Past, Clash, Unfinished, Unstaged, Taken, Gap, WrongRole, HistoryFull, NoEntry, NoMemory}
 use Rattle.dory_wire.specs.declared.message.Want.{Want}
-use Rattle.dory_wire.specs.declared.message.Want.TheVariants.{Latest, Search}
+use Rattle.dory_wire.specs.declared.message.Want.TheVariants.{Latest, Search, Which, Stage, Order, Follow}
 use Rattle.dory_wire.specs.declared.message.What.{What}
-use Rattle.dory_wire.specs.declared.message.What.TheVariants.{At, Found as Finds, Refused}
+use Rattle.dory_wire.specs.declared.message.What.TheVariants.{At, Found as Finds, Id, Staged, Committed, Refused}
 use Rattle.dory_wire.specs.declared.message.Request.{Request}
 use Rattle.dory_wire.specs.declared.message.Reply.{Reply}
 use Rattle.dory_wire.specs.Frame.{frame_of}
-use Rattle.dory_wire.specs.Spelling.{ask, four, packed, line, sum, found, refusal, want, what, spelling_of_request, spelling_of_reply, IsSum, IsFound, IsWant, IsWhat, IsRequest, IsReply}
+use Rattle.dory_wire.specs.Spelling.{ask, four, id, packed, line, sum, found, change, entry, refusal_fields, want, what, spelling_of_request, spelling_of_reply, IsSum, IsFound, IsChange, IsEntry, IsWant, IsWhat, IsRequest, IsReply}
 use Rattle.dory_wire.specs.Reading.{request_in, request_or_none, reply_in, reply_or_none, if_read}
 use Rattle.dory_wire.proofs.Packing.{length-packed}
+use Rattle.dory_wire.proofs.Ranges.{narrow}
 use Rattle.dory_wire.proofs.Holding.{length-tag_bytes}
 use Rattle.dory_wire.proofs.FrameLaws.{message_in_frame}
 use Rattle.dory_wire.proofs.RequestLaws.{read_again_request}
@@ -56,30 +60,53 @@ short_found f is =
     let six : length front ≡ 6 = refl in
     omega (arith, length-append (front ++ lines) rest, length-append front lines, six, tail, length-lines f.manifest, short_sums (length f.manifest) f.sums is.many is.sums, is.many, is.probes)
 
-short_refusal : (r : Refusal) → length (refusal r) ≤ 9
-short_refusal NoFolder = omega arith
-short_refusal (ShapeWrong depth probes) = omega arith
-short_refusal (Unretained oldest newest) = omega arith
-short_refusal (BadMember member) = omega arith
-short_refusal (Past last) = omega arith
-short_refusal (Clash id) = omega arith
-short_refusal (Unfinished id) = omega arith
-short_refusal (Unstaged id) = omega arith
-short_refusal (Taken number id) = omega arith
-short_refusal (Gap length) = omega arith
-short_refusal (WrongRole role) = omega arith
-short_refusal HistoryFull = omega arith
-short_refusal (NoEntry length) = omega arith
-short_refusal NoMemory = omega arith
+short_fields : (r : Refusal) → length (refusal_fields r) ≤ 16
+short_fields NoFolder = omega arith
+short_fields (ShapeWrong depth probes) = omega arith
+short_fields (Unretained oldest newest) = omega arith
+short_fields (BadMember member) = omega arith
+short_fields (Past last) = omega arith
+short_fields (Clash name) = omega arith
+short_fields (Unfinished name) = omega arith
+short_fields (Unstaged name) = omega arith
+short_fields (Taken number name) = omega arith
+short_fields (Gap n) = omega arith
+short_fields (WrongRole role) = omega arith
+short_fields HistoryFull = omega arith
+short_fields (NoEntry n) = omega arith
+short_fields NoMemory = omega arith
+
+length-tags : (ts : List ℕ) → length (flat_map tag_bytes ts) ≡ 16 * length ts
+length-tags [] = refl
+length-tags (t ∷ ts) = ap length (flat_map-cons tag_bytes t ts) ∙ omega (arith, length-append (tag_bytes t) (flat_map tag_bytes ts), length-tag_bytes t, length-tags ts)
+
+short_change : (c : Change) → IsChange c → length (change c) ≤ 40000
+short_change (Post shape row tags) is =
+    let n = narrow shape.depth is.dims.high in
+    omega (arith, length-append (packed row) (flat_map tag_bytes tags), length-packed row, length-tags tags, is.cells.row, is.cells.tags_are, n)
+short_change Remove is = omega arith
+
+short_entry : (e : Entry) → IsEntry e → length (entry e) ≤ 50000
+short_entry e is =
+    let front = id e.id ++ four e.doc.0 in
+    let sixteen : length front ≡ 16 = refl in
+    omega (arith, length-append front (change e.change), sixteen, short_change e.change is.change)
 
 short_what : (w : What) → IsWhat w → length (what w) ≤ 90000
-short_what (At length) is = omega arith
+short_what (At n) is = omega arith
 short_what (Finds f) is = short_found f is
-short_what (Refused code) is = omega (arith, short_refusal code)
+short_what (Id number name) is = omega arith
+short_what (Staged name) is = omega arith
+short_what (Committed number name) is = omega arith
+short_what (Refused code) is = omega (arith, short_fields code)
 
 short_want : (w : Want) → IsWant w → length (want w) ≤ 90000
 short_want Latest is = omega arith
 short_want (Search version shape keys) is = omega (arith, length-columns keys, is.2.many, is.1.few)
+short_want (Which number) is = omega arith
+short_want (Stage e) is = omega (arith, short_entry e is)
+short_want (Order name) is = omega arith
+short_want (Follow number name) is = omega arith
 
 -- a message's length is that of a frame
 pub request_short : (r : Request) → IsRequest r → length (spelling_of_request r) ≤ 1048576

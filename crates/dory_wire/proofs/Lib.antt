@@ -5,7 +5,11 @@ pub mod Lines
 pub mod Packing
 pub mod Holding
 pub mod Ranges
+pub mod Made
+pub mod Staging
+pub mod Refusing
 pub mod RequestLaws
 pub mod ReplyLaws
 pub mod FrameLaws
 pub mod Lengths
+pub mod Cuts

@@ -2,11 +2,12 @@
 use Rattle.std.proofs.Common.{◌≡◌, ℕ, suc, ◌-◌, ◌+◌, ◌≤◌, ◌<◌, List, [], ◌∷◌, ◌++◌, Result, Ok, Err, refl, sym, ap, ◌∙◌, append_assoc, arith}
 use Rattle.std.specs.Int.{w16}
 use Rattle.std.proofs.lemmas.List.{append-nil}
+use Rattle.dory_base.specs.TagBytes.{tag_number}
 use Rattle.dory_base.specs.declared.found.Place.{Place}
 use Rattle.dory_base.specs.declared.found.Sum.{Sum}
 use Rattle.dory_wire.specs.declared.fault.WireFault.{WireFault}
 use Rattle.dory_wire.specs.declared.fault.WireFault.TheVariants.{Kind, Body, Trailing, NoMemory}
-use Rattle.dory_wire.specs.Reading.{◌>>=◌, Fails, is_column, tested_at, columns_at, line_at, lines_at, sum_at, sums_at}
+use Rattle.dory_wire.specs.Reading.{◌>>=◌, Fails, is_column, tested_at, columns_at, line_at, lines_at, sum_at, sums_at, field_at, tags_at}
 
 -- what was read before, and what is still read
 abbrev pub with_front : {A : Type 0} → List A → Result (List A × List ℕ) WireFault → Result (List A × List ℕ) WireFault
@@ -99,4 +100,30 @@ unfolding sums_at
 sums_done front count i lines total bytes all le so_far =
     let k : count - i ≡ 0 = omega arith in
     let one : with_front front (sums_at (count - i) lines total bytes) ≡ Ok (front, bytes) = rw k (ap (λ (ns : List Sum). Ok (ns, bytes)) (append-nil front)) in
+    sym so_far ∙ one
+
+-- ---- tags
+
+pub tags_go : (front : List ℕ) (count i total : ℕ) (bytes tag after : List ℕ) (all : Result (List ℕ × List ℕ) WireFault) → i < count → field_at 16 total bytes ≡ Ok (tag, after)
+    → with_front front (tags_at (count - i) total bytes) ≡ all → with_front (front ++ tag_number tag ∷ []) (tags_at (count - (i + 1)) total after) ≡ all
+unfolding tags_at
+tags_go front count i total bytes tag after all lt h so_far =
+    let k : count - i ≡ suc (count - (i + 1)) = omega arith in
+    let one : with_front front (tags_at (count - i) total bytes) ≡ with_front (front ++ tag_number tag ∷ []) (tags_at (count - (i + 1)) total after) = rw (k, h) (regroup front (tag_number tag) (tags_at (count - (i + 1)) total after)) in
+    sym one ∙ so_far
+
+pub tags_fail : (e : WireFault) (front : List ℕ) (count i total : ℕ) (bytes : List ℕ) (all : Result (List ℕ × List ℕ) WireFault) → i < count → Fails e (field_at 16 total bytes)
+    → with_front front (tags_at (count - i) total bytes) ≡ all → Fails e all
+unfolding tags_at
+tags_fail e front count i total bytes all lt fails so_far =
+    let k : count - i ≡ suc (count - (i + 1)) = omega arith in
+    fails_all e (field_at 16 total bytes) all (λ f h.
+    let one : with_front front (tags_at (count - i) total bytes) ≡ Err f = rw (k, h) refl in
+    sym so_far ∙ one) fails
+
+pub tags_done : (front : List ℕ) (count i total : ℕ) (bytes : List ℕ) (all : Result (List ℕ × List ℕ) WireFault) → count ≤ i → with_front front (tags_at (count - i) total bytes) ≡ all → all ≡ Ok (front, bytes)
+unfolding tags_at
+tags_done front count i total bytes all le so_far =
+    let k : count - i ≡ 0 = omega arith in
+    let one : with_front front (tags_at (count - i) total bytes) ≡ Ok (front, bytes) = rw k (ap (λ (ns : List ℕ). Ok (ns, bytes)) (append-nil front)) in
     sym so_far ∙ one

@@ -1,5 +1,5 @@
 -- The two laws of requests: what is read is spelled so, and what is spelled so is read.
-use Rattle.std.proofs.Common.{◌≡◌, ℕ, zero, suc, ◌^◌, ◌<◌, ◌≤◌, true, cond, eqb, List, [], ◌∷◌, ◌++◌, length, Result, Ok, Err, inl, inr, refl, sym, ap, subst, ◌∙◌, append_assoc, arith}
+use Rattle.std.proofs.Common.{◌≡◌, ℕ, zero, suc, ◌^◌, ◌<◌, ◌≤◌, true, cond, eqb, leb, List, [], ◌∷◌, ◌++◌, length, Result, Ok, Err, refl, sym, ap, subst, ◌∙◌, append_assoc, arith}
 use Rattle.std.specs.List.{flat_map, AllByRecursion}
 use Rattle.std.specs.Prelude.{IfOk}
 use Rattle.std.specs.Int.{w16, w32, to_be_bytes}
@@ -9,14 +9,16 @@ use Rattle.std.proofs.lemmas.List.Concat.{flat_map-cons}
 use Rattle.dory_base.specs.Dims.{Dims, IsDims}
 use Rattle.dory_base.specs.declared.ids.AskId.{AskId}
 use Rattle.dory_wire.specs.declared.message.Want.{Want}
-use Rattle.dory_wire.specs.declared.message.Want.TheVariants.{Latest, Search}
+use Rattle.dory_wire.specs.declared.message.Want.TheVariants.{Latest, Search, Which, Stage, Order, Follow}
 use Rattle.dory_wire.specs.declared.message.Request.{Request}
 use Rattle.dory_wire.specs.declared.fault.WireFault.{WireFault}
 use Rattle.dory_wire.specs.declared.fault.WireFault.TheVariants.{Kind}
 use Rattle.dory_wire.specs.Spelling.{four, ask, want, want_kind, spelling_of_request, AreColumns, IsWant, IsRequest}
-use Rattle.dory_wire.specs.Reading.{◌>>=◌, Gives, number_at, tested_at, byte_at, ask_at, columns_at, search_at, want_at, ended, request_at, request_of, is_column, is_count, is_depth, is_probes, is_form, is_asking}
+use Rattle.dory_wire.specs.Reading.{◌>>=◌, Gives, number_at, tested_at, byte_at, ask_at, columns_at, search_at, which_at, stage_at, entry_at, named_at, numbered_at, want_at, ended, request_at, request_of, is_column, is_count, is_number, is_depth, is_probes, is_form, is_asking}
 use Rattle.dory_wire.proofs.Fields.{IsBytes, IsBytes-rest, bind_ok, ok_is, Takes, Takes-then, wide16, wide32, number_takes, number_again, tested_takes, tested_again, byte_takes, byte_again, ask_takes, ask_again}
-use Rattle.dory_wire.proofs.Ranges.{narrow, either, ended_ok, choice_met, depth_range, probes_range, depth_met, probes_met}
+use Rattle.dory_wire.proofs.Ranges.{both_true, narrow, ended_ok, choice_met, depth_range, probes_range, depth_met, probes_met}
+use Rattle.dory_wire.proofs.Made.{number_range, number_met, named_takes, named_again, numbered_takes, numbered_again, by_number, at_last}
+use Rattle.dory_wire.proofs.Staging.{entry_takes, entry_again}
 
 pub columns_take : (n depth total : ℕ) (bytes : List ℕ) (x : List ℕ × List ℕ) → IsBytes bytes → columns_at n depth total bytes ≡ Ok x
     → Takes bytes (flat_map (to_be_bytes w16) x.0) x.1 × (length x.0 ≡ n) × AllByRecursion (λ c. c < 2 ^ depth) x.0
@@ -123,9 +125,13 @@ search_again total version shape keys rest is =
 -- ---- what is asked
 
 pub want_again : (total : ℕ) (w : Want) (rest : List ℕ) → IsWant w → want_at (want_kind w) total (want w ++ rest) ≡ Ok (w, rest)
-unfolding want_at
+unfolding want_at which_at stage_at
 want_again total Latest rest is = refl
 want_again total (Search version shape keys) rest is = search_again total version shape keys rest is
+want_again total (Which number) rest is = rw (tested_again w32 (2 ^ 32) wide32 is_number total number rest (omega (arith, is.few)) (number_met number is)) refl
+want_again total (Stage e) rest is = rw (entry_again total e rest is) refl
+want_again total (Order name) rest is = named_again Order total name rest is
+want_again total (Follow number name) rest is = numbered_again Follow total number name rest is
 
 -- what was read of this kind
 pub record TakesWant (kind : ℕ) (bytes : List ℕ) (x : Want × List ℕ) : Type 0 where
@@ -137,22 +143,54 @@ is_search : (bytes : List ℕ) (w : Want) (rest : List ℕ) → TakesSearch byte
 is_search bytes w rest t =
     subst (λ (y : Want). TakesWant 2 bytes (y, rest)) (sym t.is) (record { kind_is = refl; takes = t.takes; ranges = t.ranges })
 
-abbrev chosen : ℕ → List ℕ → ℕ → Result (Want × List ℕ) WireFault
-chosen total bytes n = cond (eqb n 1) (Ok (Latest, bytes)) (search_at total bytes)
+which_takes : (total : ℕ) (bytes : List ℕ) (x : Want × List ℕ) → IsBytes bytes → which_at total bytes ≡ Ok x → TakesWant 3 bytes x
+unfolding which_at
+which_takes total bytes x fits e =
+    let a = bind_ok (tested_at w32 is_number total bytes) (λ number. Ok (Which number.0, number.1)) x e in
+    let t = tested_takes w32 (2 ^ 32) wide32 is_number total bytes a.0.0 a.0.1 fits a.1 in
+    subst (TakesWant 3 bytes) (ok_is (Which a.0.0, a.0.1) x a.2) (record { kind_is = refl; takes = t.0; ranges = number_range a.0.0 t.2 })
+
+stage_takes : (total : ℕ) (bytes : List ℕ) (x : Want × List ℕ) → IsBytes bytes → stage_at total bytes ≡ Ok x → TakesWant 4 bytes x
+unfolding stage_at
+stage_takes total bytes x fits e =
+    let a = bind_ok (entry_at total bytes) (λ entry. Ok (Stage entry.0, entry.1)) x e in
+    let t = entry_takes total bytes a.0 fits a.1 in
+    subst (TakesWant 4 bytes) (ok_is (Stage a.0.0, a.0.1) x a.2) (record { kind_is = refl; takes = t.0; ranges = t.1 })
+
+abbrev want_from_5 : ℕ → ℕ → List ℕ → Result (Want × List ℕ) WireFault
+want_from_5 kind total bytes = cond (eqb kind 5) (named_at Order total bytes) (numbered_at Follow total bytes)
+
+abbrev want_from_3 : ℕ → ℕ → List ℕ → Result (Want × List ℕ) WireFault
+want_from_3 kind total bytes = cond (eqb kind 3) (which_at total bytes) (cond (eqb kind 4) (stage_at total bytes) (want_from_5 kind total bytes))
+
+from_5_takes : (kind total : ℕ) (bytes : List ℕ) (x : Want × List ℕ) → IsBytes bytes → 5 ≤ kind → kind ≤ 6 → want_from_5 kind total bytes ≡ Ok x → TakesWant kind bytes x
+from_5_takes kind total bytes x fits low high =
+    by_number kind 5 (λ n. TakesWant n bytes x) (named_at Order total bytes) (numbered_at Follow total bytes) x low
+    (λ e. named_takes Order (TakesWant 5 bytes) total bytes x fits e (λ name rest t is. record { kind_is = refl; takes = t; ranges = is }))
+    (λ more e. at_last kind 6 (λ n. TakesWant n bytes x) more high (numbered_takes Follow (TakesWant 6 bytes) total bytes x fits e (λ number name rest t is. record { kind_is = refl; takes = t; ranges = is })))
+
+from_3_takes : (kind total : ℕ) (bytes : List ℕ) (x : Want × List ℕ) → IsBytes bytes → 3 ≤ kind → kind ≤ 6 → want_from_3 kind total bytes ≡ Ok x → TakesWant kind bytes x
+from_3_takes kind total bytes x fits low high =
+    by_number kind 3 (λ n. TakesWant n bytes x) (which_at total bytes) (cond (eqb kind 4) (stage_at total bytes) (want_from_5 kind total bytes)) x low
+    (which_takes total bytes x fits)
+    (λ more. by_number kind 4 (λ n. TakesWant n bytes x) (stage_at total bytes) (want_from_5 kind total bytes) x more
+    (stage_takes total bytes x fits)
+    (λ most. from_5_takes kind total bytes x fits most high))
+
+asking_range : (kind : ℕ) → is_asking kind ≡ true → (1 ≤ kind) × (kind ≤ 6)
+asking_range kind e =
+    let p = both_true (leb 1 kind) (leb kind 6) e in
+    (leb-true 1 kind p.0, leb-true kind 6 p.1)
 
 want_takes : (kind total : ℕ) (bytes : List ℕ) (x : Want × List ℕ) → IsBytes bytes → is_asking kind ≡ true → want_at kind total bytes ≡ Ok x → TakesWant kind bytes x
 unfolding want_at
 want_takes kind total bytes x fits known e =
-    elim (either (eqb kind 1) (eqb kind 2) known) [
-      | inl one ↦
-          let k : kind ≡ 1 = eqb-true kind 1 one in
-          let latest : chosen total bytes 1 ≡ Ok x = sym (ap (chosen total bytes) k) ∙ e in
-          subst (λ (n : ℕ). TakesWant n bytes x) (sym k) (subst (TakesWant 1 bytes) (ok_is (Latest, bytes) x latest) (record { kind_is = refl; takes = record { parts = refl; rest_fits = fits }; ranges = tt }))
-      | inr two ↦
-          let k : kind ≡ 2 = eqb-true kind 2 two in
-          let found : chosen total bytes 2 ≡ Ok x = sym (ap (chosen total bytes) k) ∙ e in
-          subst (λ (n : ℕ). TakesWant n bytes x) (sym k) (is_search bytes x.0 x.1 (search_takes total bytes x fits found))
-    ]
+    let r = asking_range kind known in
+    by_number kind 1 (λ n. TakesWant n bytes x) (Ok (Latest, bytes)) (cond (eqb kind 2) (search_at total bytes) (want_from_3 kind total bytes)) x r.0
+    (λ got. subst (TakesWant 1 bytes) (ok_is (Latest, bytes) x got) (record { kind_is = refl; takes = record { parts = refl; rest_fits = fits }; ranges = tt }))
+    (λ more. by_number kind 2 (λ n. TakesWant n bytes x) (search_at total bytes) (want_from_3 kind total bytes) x more
+    (λ got. is_search bytes x.0 x.1 (search_takes total bytes x fits got))
+    (λ most. from_3_takes kind total bytes x fits most r.1)) e
 
 -- ---- requests
 
@@ -194,6 +232,10 @@ request_takes (kind ∷ bytes) r fits e =
 known_kind : (w : Want) → is_asking (want_kind w) ≡ true
 known_kind Latest = refl
 known_kind (Search version shape keys) = refl
+known_kind (Which number) = refl
+known_kind (Stage e) = refl
+known_kind (Order name) = refl
+known_kind (Follow number name) = refl
 
 request_at_again : (total : ℕ) (r : Request) → IsRequest r → request_at (want_kind r.want) total (ask r.ask ++ (four r.folder.0 ++ (want r.want ++ []))) ≡ Ok r
 unfolding request_at

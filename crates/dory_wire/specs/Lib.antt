@@ -2,3 +2,5 @@ pub mod Spelling
 pub mod Frame
 pub mod Reading
 pub mod Read
+pub mod StepReply
+pub mod Cut

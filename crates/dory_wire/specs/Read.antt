@@ -1,6 +1,6 @@
 -- What a domain answers to Latest and Search, by its history.
-use Rattle.std.specs.Prelude.{ℕ, zero, suc, ◌≡◌, ◌+◌, ◌-◌, ◌==◌, ◌&&◌, ◌^◌, nat_le, Bool, true, false, List, [], ◌∷◌, ◌⊎◌, length, map, replicate, if◌then◌else◌}
-use Rattle.dory_base.specs.Dims.{Dims}
+use Rattle.std.specs.Prelude.{ℕ, zero, suc, ◌≡◌, ◌+◌, ◌-◌, ◌&&◌, ◌^◌, nat_le, Bool, true, false, List, [], ◌∷◌, ◌⊎◌, length, map, replicate, if◌then◌else◌, Option, Some, None}
+use Rattle.dory_base.specs.Dims.{Dims, same_shape}
 use Rattle.dory_base.specs.declared.entry.Entry.{Entry}
 use Rattle.dory_base.specs.declared.found.Found.{Found}
 use Rattle.dory_base.specs.declared.refusal.Refusal.TheVariants.{ShapeWrong, Unretained, NoMemory}
@@ -8,13 +8,9 @@ use Rattle.dory_base.specs.History.{version_of}
 use Rattle.dory_base.specs.Table.{table_of, manifest_of}
 use Rattle.dory_base.specs.Sum.{sum_of}
 use Rattle.dory_wire.specs.declared.message.Want.{Want}
-use Rattle.dory_wire.specs.declared.message.Want.TheVariants.{Latest, Search}
+use Rattle.dory_wire.specs.declared.message.Want.TheVariants.{Latest, Search, Which, Stage, Order, Follow}
 use Rattle.dory_wire.specs.declared.message.What.{What}
-use Rattle.dory_wire.specs.declared.message.What.TheVariants.{At, Found as Finds, Refused}
-
--- two shapes are one
-abbrev pub same_shape : Dims → Dims → Bool
-same_shape s t = (s.depth == t.depth) && (s.probes == t.probes)
+use Rattle.dory_wire.specs.declared.message.What.TheVariants.{At, Found as Finds, Id, Staged, Committed, Refused}
 
 -- the oldest version that is retained of a history of n entries
 abbrev pub oldest_of : ℕ → ℕ → ℕ
@@ -39,18 +35,43 @@ found_of shape history number keys =
       sums = map (λ key. sum_of (table_of (version_of number history)) (shares_of shape key)) keys;
     }
 
--- the answer of a folder with this shape, so many retained versions and this history
-abbrev pub read_of : Dims → ℕ → List Entry → Want → What
-read_of shape retained history Latest = At (length history)
-read_of shape retained history (Search number asked keys) =
+-- a request that reads: Latest and Search
+abbrev pub is_read : Want → Bool
+is_read Latest = true
+is_read (Search number asked keys) = true
+is_read (Which number) = false
+is_read (Stage e) = false
+is_read (Order name) = false
+is_read (Follow number name) = false
+
+-- the answer to a search of a folder with this shape, so many retained versions and this history
+abbrev pub search_of : Dims → ℕ → List Entry → ℕ → Dims → List ℕ → What
+search_of shape retained history number asked keys =
     if same_shape asked shape
     then (if nat_le (oldest_of retained (length history)) number && nat_le number (length history)
     then Finds (found_of shape history number keys)
     else Refused (Unretained (oldest_of retained (length history)) (length history)))
     else Refused (ShapeWrong shape.depth shape.probes)
 
+-- the answer of a folder to a read; the other requests are none
+abbrev pub read_of : Dims → ℕ → List Entry → Want → Option What
+read_of shape retained history Latest = Some (At (length history))
+read_of shape retained history (Search number asked keys) = Some (search_of shape retained history number asked keys)
+read_of shape retained history (Which number) = None
+read_of shape retained history (Stage e) = None
+read_of shape retained history (Order name) = None
+read_of shape retained history (Follow number name) = None
+
 -- memory may run out for a Found, and for no other answer
 abbrev pub IsReadAs : What → What → Type 0
 IsReadAs (Finds f) given = (given ≡ Finds f) ⊎ (given ≡ Refused NoMemory)
 IsReadAs (At length) given = given ≡ At length
+IsReadAs (Id number name) given = given ≡ Id number name
+IsReadAs (Staged name) given = given ≡ Staged name
+IsReadAs (Committed number name) given = given ≡ Committed number name
 IsReadAs (Refused code) given = given ≡ Refused code
+
+-- so is what is given to a read; nothing is, where it is none
+abbrev pub IsReadOf : Option What → What → Type 0
+IsReadOf (Some answer) given = IsReadAs answer given
+IsReadOf None given = ⊥

@@ -1,18 +1,23 @@
 -- Reading a message from left to right, field by field, up to the first fault.
-use Rattle.std.specs.Prelude.{ℕ, zero, suc, ◌≡◌, ◌+◌, ◌-◌, ◌/◌, ◌%◌, ◌==◌, ◌^◌, nat_lt, nat_le, Bool, true, false, not, ◌&&◌, ◌||◌, if◌then◌else◌, List, [], ◌∷◌, ◌++◌, length, take, drop, Option, Some, None, Result, Ok, Err}
+use Rattle.std.specs.Prelude.{ℕ, zero, suc, ◌≡◌, ◌+◌, ◌-◌, ◌/◌, ◌%◌, ◌==◌, ◌^◌, nat_lt, nat_le, Bool, true, false, not, ◌&&◌, if◌then◌else◌, List, [], ◌∷◌, ◌++◌, length, take, drop, Option, Some, None, Result, Ok, Err}
 use Rattle.std.specs.Int.{Width, w16, w32, w64, byte_len, from_be_bytes}
 use Rattle.dory_base.specs.TagBytes.{tag_number}
 use Rattle.dory_base.specs.declared.ids.AskId.{AskId}
 use Rattle.dory_base.specs.declared.ids.UpdateId.{UpdateId}
+use Rattle.dory_base.specs.declared.ids.Side.{Side}
+use Rattle.dory_base.specs.declared.ids.Side.TheVariants.{Lead, Follow as Following}
+use Rattle.dory_base.specs.declared.entry.Entry.{Entry}
+use Rattle.dory_base.specs.declared.entry.Change.{Change}
+use Rattle.dory_base.specs.declared.entry.Change.TheVariants.{Post, Remove}
 use Rattle.dory_base.specs.declared.found.Place.{Place}
 use Rattle.dory_base.specs.declared.found.Sum.{Sum}
 use Rattle.dory_base.specs.declared.found.Found.{Found}
 use Rattle.dory_base.specs.declared.refusal.Refusal.{Refusal}
-use Rattle.dory_base.specs.declared.refusal.Refusal.TheVariants.{NoFolder, ShapeWrong, Unretained, NoMemory as OutOfMemory}
+use Rattle.dory_base.specs.declared.refusal.Refusal.TheVariants.{NoFolder, ShapeWrong, Unretained, BadMember, Past, Clash, Unfinished, Unstaged, Taken, Gap, WrongRole, HistoryFull, NoEntry, NoMemory as OutOfMemory}
 use Rattle.dory_wire.specs.declared.message.Want.{Want}
-use Rattle.dory_wire.specs.declared.message.Want.TheVariants.{Latest, Search}
+use Rattle.dory_wire.specs.declared.message.Want.TheVariants.{Latest, Search, Which, Stage, Order, Follow}
 use Rattle.dory_wire.specs.declared.message.What.{What}
-use Rattle.dory_wire.specs.declared.message.What.TheVariants.{At, Found as Finds, Refused}
+use Rattle.dory_wire.specs.declared.message.What.TheVariants.{At, Found as Finds, Id, Staged, Committed, Refused}
 use Rattle.dory_wire.specs.declared.message.Request.{Request}
 use Rattle.dory_wire.specs.declared.message.Reply.{Reply}
 use Rattle.dory_wire.specs.declared.fault.WireFault.{WireFault}
@@ -78,6 +83,10 @@ byte_at test total (b ∷ rest) = ranged total (b ∷ rest) (test b) (b, rest)
 abbrev pub is_count : ℕ → Bool
 is_count n = nat_le n 1048576
 
+-- the number of an entry
+abbrev pub is_number : ℕ → Bool
+is_number n = nat_le 1 n && nat_le n 1048576
+
 -- the depth of a shape
 abbrev pub is_depth : ℕ → Bool
 is_depth n = nat_le 8 n && nat_le n 11
@@ -106,6 +115,18 @@ is_column depth n = nat_lt n (2 ^ depth)
 abbrev pub is_slot : ℕ → ℕ → Bool
 is_slot least n = nat_le least n && nat_lt n 4096
 
+-- what an update does: 1 posts, 2 removes
+abbrev pub is_change : ℕ → Bool
+is_change n = nat_le 1 n && nat_le n 2
+
+-- a role: 0 leads, 1 follows
+abbrev pub is_role : ℕ → Bool
+is_role n = nat_le n 1
+
+-- the role of a byte
+abbrev pub role_of : ℕ → Side
+role_of n = if n == 0 then Lead else Following
+
 -- an ask, which is one field
 unfoldable pub ask_at : ℕ → List ℕ → Result (AskId × List ℕ) WireFault
 ask_at total bytes = do
@@ -131,6 +152,25 @@ id_at total bytes = do
     f.1,
   )
 
+-- an update's id, and what is made of it
+unfoldable pub named_at : {A : Type 0} → (UpdateId → A) → ℕ → List ℕ → Result (A × List ℕ) WireFault
+named_at make total bytes = do
+  name ← id_at total bytes
+  Ok (make name.0, name.1)
+
+-- the number of an entry and its update's id, and what is made of them
+unfoldable pub numbered_at : {A : Type 0} → (ℕ → UpdateId → A) → ℕ → List ℕ → Result (A × List ℕ) WireFault
+numbered_at make total bytes = do
+  number ← tested_at w32 is_number total bytes
+  name ← id_at total number.1
+  Ok (make number.0 name.0, name.1)
+
+-- the length of a history, and what is made of it
+unfoldable pub counted_at : {A : Type 0} → (ℕ → A) → ℕ → List ℕ → Result (A × List ℕ) WireFault
+counted_at make total bytes = do
+  length ← tested_at w32 is_count total bytes
+  Ok (make length.0, length.1)
+
 -- so many columns, each within a row of this depth
 unfoldable pub columns_at : ℕ → ℕ → ℕ → List ℕ → Result (List ℕ × List ℕ) WireFault
 columns_at zero depth total bytes = Ok ([], bytes)
@@ -148,26 +188,6 @@ search_at total bytes = do
   form ← byte_at is_form total probes.1
   keys ← columns_at probes.0 depth.0 total form.1
   Ok (Search version.0 (record { depth = depth.0; probes = probes.0 }) keys.0, keys.1)
-
--- what is asked, by its kind
-unfoldable pub want_at : ℕ → ℕ → List ℕ → Result (Want × List ℕ) WireFault
-want_at kind total bytes = if kind == 1 then Ok (Latest, bytes) else search_at total bytes
-
--- a line of a manifest, whose slot is this one or a later one
-unfoldable pub line_at : ℕ → ℕ → List ℕ → Result (Place × List ℕ) WireFault
-line_at least total bytes = do
-  slot ← tested_at w16 (is_slot least) total bytes
-  doc ← number_at w32 total slot.1
-  id ← id_at total doc.1
-  Ok (record { slot = slot.0; doc = record { 0 = doc.0 }; id = id.0 }, id.1)
-
--- so many lines of a manifest, whose slots rise from this one on
-unfoldable pub lines_at : ℕ → ℕ → ℕ → List ℕ → Result (List Place × List ℕ) WireFault
-lines_at zero least total bytes = Ok ([], bytes)
-lines_at (suc n) least total bytes = do
-  first ← line_at least total bytes
-  more ← lines_at n (first.0.slot + 1) total first.1
-  Ok (first.0 ∷ more.0, more.1)
 
 -- the lowest n bits of a number, the lowest first
 abbrev pub bits_from : ℕ → ℕ → List Bool
@@ -189,6 +209,74 @@ unfoldable pub bits_at : ℕ → ℕ → List ℕ → Result (List Bool × List 
 bits_at n total bytes = do
   f ← field_at (packed_len n) total bytes
   ranged total bytes (is_clear (drop n (bits_in f.0))) (take n (bits_in f.0), f.1)
+
+-- so many tags, each of sixteen bytes
+unfoldable pub tags_at : ℕ → ℕ → List ℕ → Result (List ℕ × List ℕ) WireFault
+tags_at zero total bytes = Ok ([], bytes)
+tags_at (suc n) total bytes = do
+  tag ← field_at 16 total bytes
+  more ← tags_at n total tag.1
+  Ok (tag_number tag.0 ∷ more.0, more.1)
+
+-- a post: its shape, and a row and tags of that shape
+unfoldable pub post_at : ℕ → List ℕ → Result (Change × List ℕ) WireFault
+post_at total bytes = do
+  depth ← byte_at is_depth total bytes
+  probes ← byte_at is_probes total depth.1
+  row ← bits_at (2 ^ depth.0) total probes.1
+  tags ← tags_at (2 ^ depth.0) total row.1
+  Ok (Post (record { depth = depth.0; probes = probes.0 }) row.0 tags.0, tags.1)
+
+-- what an update does, by its byte
+unfoldable pub change_at : ℕ → ℕ → List ℕ → Result (Change × List ℕ) WireFault
+change_at does total bytes = if does == 1 then post_at total bytes else Ok (Remove, bytes)
+
+-- an update: its id, the document, and what it does
+unfoldable pub entry_at : ℕ → List ℕ → Result (Entry × List ℕ) WireFault
+entry_at total bytes = do
+  name ← id_at total bytes
+  doc ← number_at w32 total name.1
+  does ← byte_at is_change total doc.1
+  change ← change_at does.0 total does.1
+  Ok (record { id = name.0; doc = record { 0 = doc.0 }; change = change.0 }, change.1)
+
+-- the number of an entry, as what is asked
+unfoldable pub which_at : ℕ → List ℕ → Result (Want × List ℕ) WireFault
+which_at total bytes = do
+  number ← tested_at w32 is_number total bytes
+  Ok (Which number.0, number.1)
+
+-- an update, as what is asked
+unfoldable pub stage_at : ℕ → List ℕ → Result (Want × List ℕ) WireFault
+stage_at total bytes = do
+  e ← entry_at total bytes
+  Ok (Stage e.0, e.1)
+
+-- what is asked, by its kind
+unfoldable pub want_at : ℕ → ℕ → List ℕ → Result (Want × List ℕ) WireFault
+want_at kind total bytes =
+    if kind == 1 then Ok (Latest, bytes)
+    else (if kind == 2 then search_at total bytes
+    else (if kind == 3 then which_at total bytes
+    else (if kind == 4 then stage_at total bytes
+    else (if kind == 5 then named_at Order total bytes
+    else numbered_at Follow total bytes))))
+
+-- a line of a manifest, whose slot is this one or a later one
+unfoldable pub line_at : ℕ → ℕ → List ℕ → Result (Place × List ℕ) WireFault
+line_at least total bytes = do
+  slot ← tested_at w16 (is_slot least) total bytes
+  doc ← number_at w32 total slot.1
+  id ← id_at total doc.1
+  Ok (record { slot = slot.0; doc = record { 0 = doc.0 }; id = id.0 }, id.1)
+
+-- so many lines of a manifest, whose slots rise from this one on
+unfoldable pub lines_at : ℕ → ℕ → ℕ → List ℕ → Result (List Place × List ℕ) WireFault
+lines_at zero least total bytes = Ok ([], bytes)
+lines_at (suc n) least total bytes = do
+  first ← line_at least total bytes
+  more ← lines_at n (first.0.slot + 1) total first.1
+  Ok (first.0 ∷ more.0, more.1)
 
 -- a sum with so many bits
 unfoldable pub sum_at : ℕ → ℕ → List ℕ → Result (Sum × List ℕ) WireFault
@@ -229,29 +317,56 @@ retained_at total bytes = do
   newest ← tested_at w32 is_count total oldest.1
   Ok (Unretained oldest.0 newest.0, newest.1)
 
+-- a member that a folder does not have
+unfoldable pub member_at : ℕ → List ℕ → Result (Refusal × List ℕ) WireFault
+member_at total bytes = do
+  member ← number_at w32 total bytes
+  Ok (BadMember (record { 0 = member.0 }), member.1)
+
+-- the last serial of a member
+unfoldable pub past_at : ℕ → List ℕ → Result (Refusal × List ℕ) WireFault
+past_at total bytes = do
+  last ← number_at w64 total bytes
+  Ok (Past last.0, last.1)
+
+-- the role of the domain that was asked
+unfoldable pub role_at : ℕ → List ℕ → Result (Refusal × List ℕ) WireFault
+role_at total bytes = do
+  role ← byte_at is_role total bytes
+  Ok (WrongRole (role_of role.0), role.1)
+
+-- the fields of a refusal whose code is 8 or above
+unfoldable pub later_code_at : ℕ → ℕ → List ℕ → Result (Refusal × List ℕ) WireFault
+later_code_at code total bytes =
+    if code == 8 then named_at Unstaged total bytes
+    else (if code == 9 then numbered_at Taken total bytes
+    else (if code == 10 then counted_at Gap total bytes
+    else (if code == 11 then role_at total bytes
+    else (if code == 12 then Ok (HistoryFull, bytes)
+    else (if code == 13 then counted_at NoEntry total bytes
+    else Ok (OutOfMemory, bytes))))))
+
 -- the fields of a refusal, by its code
 unfoldable pub code_at : ℕ → ℕ → List ℕ → Result (Refusal × List ℕ) WireFault
 code_at code total bytes =
     if code == 1 then Ok (NoFolder, bytes)
     else (if code == 2 then shape_at total bytes
     else (if code == 3 then retained_at total bytes
-    else Ok (OutOfMemory, bytes)))
+    else (if code == 4 then member_at total bytes
+    else (if code == 5 then past_at total bytes
+    else (if code == 6 then named_at Clash total bytes
+    else (if code == 7 then named_at Unfinished total bytes
+    else later_code_at code total bytes))))))
 
--- the codes that have a message
+-- the codes of refusals
 abbrev pub is_code : ℕ → Bool
-is_code n = (n == 1) || (n == 2) || (n == 3) || (n == 14)
+is_code n = nat_le 1 n && nat_le n 14
 
 -- a refusal
 unfoldable pub refusal_at : ℕ → List ℕ → Result (Refusal × List ℕ) WireFault
 refusal_at total bytes = do
   code ← byte_at is_code total bytes
   code_at code.0 total code.1
-
--- a length, as what is answered
-unfoldable pub length_at : ℕ → List ℕ → Result (What × List ℕ) WireFault
-length_at total bytes = do
-  length ← tested_at w32 is_count total bytes
-  Ok (At length.0, length.1)
 
 -- what a version holds, as what is answered
 unfoldable pub holding_at : ℕ → List ℕ → Result (What × List ℕ) WireFault
@@ -268,9 +383,12 @@ refused_at total bytes = do
 -- what is answered, by its kind
 unfoldable pub what_at : ℕ → ℕ → List ℕ → Result (What × List ℕ) WireFault
 what_at kind total bytes =
-    if kind == 129 then length_at total bytes
+    if kind == 129 then counted_at At total bytes
     else (if kind == 130 then holding_at total bytes
-    else refused_at total bytes)
+    else (if kind == 131 then numbered_at Id total bytes
+    else (if kind == 132 then named_at Staged total bytes
+    else (if kind == 133 then numbered_at Committed total bytes
+    else refused_at total bytes))))
 
 -- what was read to the end; else a fault at the byte after the last field
 abbrev pub ended : {A : Type 0} → A → ℕ → List ℕ → Result A WireFault
@@ -293,11 +411,11 @@ reply_at kind total bytes = do
 
 -- the kinds of requests
 abbrev pub is_asking : ℕ → Bool
-is_asking kind = (kind == 1) || (kind == 2)
+is_asking kind = nat_le 1 kind && nat_le kind 6
 
 -- the kinds of replies
 abbrev pub is_answering : ℕ → Bool
-is_answering kind = (kind == 129) || (kind == 130) || (kind == 134)
+is_answering kind = nat_le 129 kind && nat_le kind 134
 
 -- the request that a message is, or its first fault
 unfoldable pub request_of : List ℕ → Result Request WireFault

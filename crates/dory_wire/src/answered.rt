@@ -1,18 +1,18 @@
 //! Readers of what a reply answers.
-ghost use Rattle.std.specs.Prelude.{◌≡◌, ◌≤◌, ◌<◌, ◌+◌, Bool, IfOk, false, length, take, drop, map, slice_index, slice_index_or};
+ghost use Rattle.std.specs.Prelude.{◌≡◌, ◌≤◌, ◌<◌, IfOk, map};
 ghost use Rattle.std.specs.List.Sorted.{IsStrictlyIncreasing};
-ghost use Rattle.dory_base.specs.TagBytes.{tag_number};
-ghost use Rattle.dory_wire.specs.Spelling.{packed_len};
-ghost use Rattle.dory_wire.specs.Reading.{GivesBy, Gives, bits_at as read_bits, bits_in, code_at as read_code, field_at, found_at as read_found, holding_at as read_holding, is_clear, length_at as read_length, line_at as read_line, lines_at as read_lines, refusal_at as read_refusal, refused_at as read_refused, reply_at as read_reply, reply_of, retained_at as read_retained, shape_at as read_shape, sum_at as read_sum, sums_at as read_sums, what_at as read_what};
+ghost use Rattle.dory_wire.specs.declared.message.What.TheVariants.{At, Id, Staged, Committed};
+ghost use Rattle.dory_wire.specs.Reading.{GivesBy, Gives, counted_at, found_at as read_found, holding_at as read_holding, line_at as read_line, lines_at as read_lines, named_at, numbered_at, refused_at as read_refused, reply_at as read_reply, reply_of, sum_at as read_sum, sums_at as read_sums, what_at as read_what};
 
 use crate::fault::WireFault;
 use crate::field::{
-    ask_at, code_at, count_at, depth_at, fault_at, few_at, id_at, lines_at as line_count_at,
-    probes_at, slice_at, slot_at, trailing, u32_at,
+    ask_at, count_at, entry_number_at, few_at, id_at, lines_at as line_count_at, slice_at, slot_at,
+    tag_of, trailing, u32_at,
 };
 use crate::message::{Reply, What};
-use crate::packed::{is_padded, unpacked};
-use dory_base::{Bits, DocId, Found, Manifest, Place, Refusal, Sum, Sums, Tag};
+use crate::packed::bits_at;
+use crate::refused::refusal_at;
+use dory_base::{DocId, Found, Manifest, Place, Sum, Sums};
 use std::alloc::Global;
 
 #[tactic(auto, unfolding(crate::specs::Reading::line_at))]
@@ -46,35 +46,6 @@ fn places_at(
         least = place.slot + 1;
     }
     Ok((places, rest))
-}
-
-#[tactic(auto, unfolding(crate::specs::Reading::bits_at))]
-fn bits_at(
-    alloc: Global,
-    total: usize,
-    count: usize,
-    bytes: &[u8],
-) -> Result<(Bits, &[u8]), WireFault>
-    requires { count ≤ 4096 }
-    ensures { GivesBy (λ x. (x.0, x.1.now)) result (read_bits count total bytes.now) }
-{
-    let (packed, rest) = slice_at(total, (count + 7) / 8, bytes)?;
-    if !is_padded(packed, count) {
-        return Err(fault_at(total, bytes));
-    }
-    match unpacked(alloc, packed, count) {
-        Ok(bits) => Ok((bits, rest)),
-        Err(fault) => Err(fault),
-    }
-}
-
-fn tag_of(bytes: &[u8]) -> Tag
-    requires { length bytes.now ≡ 16 }
-    ensures { result ≡ tag_number bytes.now }
-{
-    let mut sixteen = [0u8; 16];
-    sixteen.copy_from_slice(bytes);
-    Tag::of(sixteen)
 }
 
 #[tactic(auto, unfolding(crate::specs::Reading::sum_at))]
@@ -139,55 +110,6 @@ fn found_at(alloc: Global, total: usize, bytes: &[u8]) -> Result<(Found, &[u8]),
     Ok((found, rest))
 }
 
-#[tactic(auto, unfolding(crate::specs::Reading::shape_at))]
-fn shape_at(total: usize, bytes: &[u8]) -> Result<(Refusal, &[u8]), WireFault>
-    ensures { GivesBy (λ x. (x.0, x.1.now)) result (read_shape total bytes.now) }
-{
-    let (depth, rest) = depth_at(total, bytes)?;
-    let (probes, rest) = probes_at(total, rest)?;
-    Ok((Refusal::ShapeWrong { depth, probes }, rest))
-}
-
-#[tactic(auto, unfolding(crate::specs::Reading::retained_at))]
-fn retained_at(total: usize, bytes: &[u8]) -> Result<(Refusal, &[u8]), WireFault>
-    ensures { GivesBy (λ x. (x.0, x.1.now)) result (read_retained total bytes.now) }
-{
-    let (oldest, rest) = count_at(total, bytes)?;
-    let (newest, rest) = count_at(total, rest)?;
-    Ok((Refusal::Unretained { oldest, newest }, rest))
-}
-
-#[tactic(auto, unfolding(crate::specs::Reading::code_at))]
-fn coded_at(total: usize, code: u8, bytes: &[u8]) -> Result<(Refusal, &[u8]), WireFault>
-    ensures { GivesBy (λ x. (x.0, x.1.now)) result (read_code code total bytes.now) }
-{
-    if code == 1 {
-        Ok((Refusal::NoFolder, bytes))
-    } else if code == 2 {
-        shape_at(total, bytes)
-    } else if code == 3 {
-        retained_at(total, bytes)
-    } else {
-        Ok((Refusal::NoMemory, bytes))
-    }
-}
-
-#[tactic(auto, unfolding(crate::specs::Reading::refusal_at))]
-fn refusal_at(total: usize, bytes: &[u8]) -> Result<(Refusal, &[u8]), WireFault>
-    ensures { GivesBy (λ x. (x.0, x.1.now)) result (read_refusal total bytes.now) }
-{
-    let (code, rest) = code_at(total, bytes)?;
-    coded_at(total, code, rest)
-}
-
-#[tactic(auto, unfolding(crate::specs::Reading::length_at))]
-fn length_at(total: usize, bytes: &[u8]) -> Result<(What, &[u8]), WireFault>
-    ensures { GivesBy (λ x. (x.0, x.1.now)) result (read_length total bytes.now) }
-{
-    let (length, rest) = count_at(total, bytes)?;
-    Ok((What::At { length }, rest))
-}
-
 #[tactic(auto, unfolding(crate::specs::Reading::holding_at))]
 fn holding_at(alloc: Global, total: usize, bytes: &[u8]) -> Result<(What, &[u8]), WireFault>
     ensures { GivesBy (λ x. (x.0, x.1.now)) result (read_holding total bytes.now) }
@@ -196,6 +118,40 @@ fn holding_at(alloc: Global, total: usize, bytes: &[u8]) -> Result<(What, &[u8])
         Ok((found, rest)) => Ok((What::Found { found }, rest)),
         Err(fault) => Err(fault),
     }
+}
+
+#[tactic(auto, unfolding(crate::specs::Reading::counted_at))]
+fn length_at(total: usize, bytes: &[u8]) -> Result<(What, &[u8]), WireFault>
+    ensures { GivesBy (λ x. (x.0, x.1.now)) result (counted_at At total bytes.now) }
+{
+    let (length, rest) = count_at(total, bytes)?;
+    Ok((What::At { length }, rest))
+}
+
+#[tactic(auto, unfolding(crate::specs::Reading::numbered_at))]
+fn named_entry_at(total: usize, bytes: &[u8]) -> Result<(What, &[u8]), WireFault>
+    ensures { GivesBy (λ x. (x.0, x.1.now)) result (numbered_at Id total bytes.now) }
+{
+    let (number, rest) = entry_number_at(total, bytes)?;
+    let (id, rest) = id_at(total, rest)?;
+    Ok((What::Id { number, id }, rest))
+}
+
+#[tactic(auto, unfolding(crate::specs::Reading::named_at))]
+fn staged_at(total: usize, bytes: &[u8]) -> Result<(What, &[u8]), WireFault>
+    ensures { GivesBy (λ x. (x.0, x.1.now)) result (named_at Staged total bytes.now) }
+{
+    let (id, rest) = id_at(total, bytes)?;
+    Ok((What::Staged { id }, rest))
+}
+
+#[tactic(auto, unfolding(crate::specs::Reading::numbered_at))]
+fn committed_at(total: usize, bytes: &[u8]) -> Result<(What, &[u8]), WireFault>
+    ensures { GivesBy (λ x. (x.0, x.1.now)) result (numbered_at Committed total bytes.now) }
+{
+    let (number, rest) = entry_number_at(total, bytes)?;
+    let (id, rest) = id_at(total, rest)?;
+    Ok((What::Committed { number, id }, rest))
 }
 
 #[tactic(auto, unfolding(crate::specs::Reading::refused_at))]
@@ -214,6 +170,12 @@ fn what_at(alloc: Global, kind: u8, total: usize, bytes: &[u8]) -> Result<(What,
         length_at(total, bytes)
     } else if kind == 130 {
         holding_at(alloc, total, bytes)
+    } else if kind == 131 {
+        named_entry_at(total, bytes)
+    } else if kind == 132 {
+        staged_at(total, bytes)
+    } else if kind == 133 {
+        committed_at(total, bytes)
     } else {
         refused_at(total, bytes)
     }
@@ -242,7 +204,7 @@ pub fn whole_reply(alloc: Global, message: &[u8]) -> Result<Reply, WireFault>
     match message {
         [] => Err(WireFault::Body { at: 0 }),
         [kind, rest @ ..] => {
-            if *kind == 0x81 || *kind == 0x82 || *kind == 0x86 {
+            if *kind >= 0x81 && *kind <= 0x86 {
                 reply_at(alloc, *kind, message.len(), rest)
             } else {
                 Err(WireFault::Kind { b: *kind })

@@ -1,11 +1,16 @@
 //! Readers of what a request asks.
-ghost use Rattle.std.specs.Prelude.{◌≡◌, ◌≤◌, IfOk};
-ghost use Rattle.dory_wire.specs.Reading.{GivesBy, Gives, columns_at as read_columns, request_at as read_request, request_of, search_at as read_search, want_at as read_want};
+ghost use Rattle.std.specs.Prelude.{◌≡◌, ◌≤◌};
+ghost use Rattle.dory_wire.specs.declared.message.Want.TheVariants.{Follow, Order};
+ghost use Rattle.dory_wire.specs.Reading.{GivesBy, Gives, columns_at as read_columns, named_at, numbered_at, request_at as read_request, request_of, search_at as read_search, stage_at as read_stage, want_at as read_want, which_at as read_which};
 
 use crate::fault::WireFault;
-use crate::field::{ask_at, column_at, count_at, depth_at, form_at, probes_at, trailing, u32_at};
+use crate::field::{
+    ask_at, column_at, count_at, depth_at, entry_number_at, form_at, id_at, probes_at, shape_of,
+    trailing, u32_at,
+};
 use crate::message::{Request, Want};
-use dory_base::{FolderId, Keys, Shape};
+use crate::staged::entry_at;
+use dory_base::{FolderId, Keys};
 use std::alloc::Global;
 
 fn columns_at(
@@ -28,19 +33,6 @@ fn columns_at(
     Ok((columns, rest))
 }
 
-fn shape_of(depth: u8, probes: u8) -> Shape
-    requires low { 8 ≤ depth }
-    requires high { depth ≤ 11 }
-    requires some { 1 ≤ probes }
-    requires few { probes ≤ 8 }
-    ensures { result ≡ record { depth = depth; probes = probes } }
-{
-    match Shape::new(depth, probes) {
-        Some(shape) => shape,
-        None => unreachable!(),
-    }
-}
-
 #[tactic(auto, unfolding(crate::specs::Reading::search_at))]
 fn search_at(alloc: Global, total: usize, bytes: &[u8]) -> Result<(Want, &[u8]), WireFault>
     ensures { GivesBy (λ x. (x.0, x.1.now)) result (read_search total bytes.now) }
@@ -58,14 +50,52 @@ fn search_at(alloc: Global, total: usize, bytes: &[u8]) -> Result<(Want, &[u8]),
     Ok((want, rest))
 }
 
+#[tactic(auto, unfolding(crate::specs::Reading::which_at))]
+fn which_at(total: usize, bytes: &[u8]) -> Result<(Want, &[u8]), WireFault>
+    ensures { GivesBy (λ x. (x.0, x.1.now)) result (read_which total bytes.now) }
+{
+    let (number, rest) = entry_number_at(total, bytes)?;
+    Ok((Want::Which { number }, rest))
+}
+
+#[tactic(auto, unfolding(crate::specs::Reading::stage_at))]
+fn stage_at(alloc: Global, total: usize, bytes: &[u8]) -> Result<(Want, &[u8]), WireFault>
+    ensures { GivesBy (λ x. (x.0, x.1.now)) result (read_stage total bytes.now) }
+{
+    match entry_at(alloc, total, bytes) {
+        Ok((entry, rest)) => Ok((Want::Stage { entry }, rest)),
+        Err(fault) => Err(fault),
+    }
+}
+
+#[tactic(auto, unfolding(crate::specs::Reading::named_at))]
+fn order_at(total: usize, bytes: &[u8]) -> Result<(Want, &[u8]), WireFault>
+    ensures { GivesBy (λ x. (x.0, x.1.now)) result (named_at Order total bytes.now) }
+{
+    let (id, rest) = id_at(total, bytes)?;
+    Ok((Want::Order { id }, rest))
+}
+
+#[tactic(auto, unfolding(crate::specs::Reading::numbered_at))]
+fn follow_at(total: usize, bytes: &[u8]) -> Result<(Want, &[u8]), WireFault>
+    ensures { GivesBy (λ x. (x.0, x.1.now)) result (numbered_at Follow total bytes.now) }
+{
+    let (number, rest) = entry_number_at(total, bytes)?;
+    let (id, rest) = id_at(total, rest)?;
+    Ok((Want::Follow { number, id }, rest))
+}
+
 #[tactic(auto, unfolding(crate::specs::Reading::want_at))]
 fn want_at(alloc: Global, kind: u8, total: usize, bytes: &[u8]) -> Result<(Want, &[u8]), WireFault>
     ensures { GivesBy (λ x. (x.0, x.1.now)) result (read_want kind total bytes.now) }
 {
-    if kind == 1 {
-        Ok((Want::Latest, bytes))
-    } else {
-        search_at(alloc, total, bytes)
+    match kind {
+        1 => Ok((Want::Latest, bytes)),
+        2 => search_at(alloc, total, bytes),
+        3 => which_at(total, bytes),
+        4 => stage_at(alloc, total, bytes),
+        5 => order_at(total, bytes),
+        _ => follow_at(total, bytes),
     }
 }
 
@@ -97,7 +127,7 @@ pub fn whole_request(alloc: Global, message: &[u8]) -> Result<Request, WireFault
     match message {
         [] => Err(WireFault::Body { at: 0 }),
         [kind, rest @ ..] => {
-            if *kind == 1 || *kind == 2 {
+            if *kind >= 1 && *kind <= 6 {
                 request_at(alloc, *kind, message.len(), rest)
             } else {
                 Err(WireFault::Kind { b: *kind })

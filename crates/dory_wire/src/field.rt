@@ -2,11 +2,12 @@
 //! what is left after it, or a fault at the field's first byte.
 ghost use Rattle.std.specs.Prelude.{◌≡◌, ◌≤◌, ◌<◌, ◌-◌, ◌^◌, IfOk, length};
 ghost use Rattle.std.specs.Int.{w16, w32, w64, from_be_bytes};
+ghost use Rattle.dory_base.specs.TagBytes.{tag_number};
 ghost use Rattle.dory_wire.specs.declared.fault.WireFault.TheVariants.{Body, Trailing};
-ghost use Rattle.dory_wire.specs.Reading.{GivesBy, ask_at as read_ask, byte_at, field_at, id_at as read_id, is_code, is_column, is_count, is_depth, is_few, is_form, is_lines, is_probes, is_slot, number_at, place, tested_at};
+ghost use Rattle.dory_wire.specs.Reading.{GivesBy, ask_at as read_ask, byte_at, field_at, id_at as read_id, is_change, is_code, is_column, is_count, is_depth, is_few, is_form, is_lines, is_number, is_probes, is_role, is_slot, number_at, place, tested_at};
 
 use crate::fault::WireFault;
-use dory_base::{AskId, MemberId, UpdateId};
+use dory_base::{AskId, MemberId, Shape, Tag, UpdateId};
 
 /// The fault of the field that begins with these bytes.
 pub fn fault_at(total: usize, bytes: &[u8]) -> WireFault
@@ -81,6 +82,17 @@ pub fn u32_at(total: usize, bytes: &[u8]) -> Result<(u32, &[u8]), WireFault>
     Ok((u32_of(front), rest))
 }
 
+#[tactic(auto, unfolding(crate::specs::Reading::number_at))]
+pub fn u64_at(total: usize, bytes: &[u8]) -> Result<(u64, &[u8]), WireFault>
+    ensures { GivesBy (λ x. (x.0, x.1.now)) result (number_at w64 total bytes.now) }
+{
+    if bytes.len() < 8 {
+        return Err(fault_at(total, bytes));
+    }
+    let (front, rest) = bytes.split_at(8);
+    Ok((u64_of(front), rest))
+}
+
 /// A version or a length of a history.
 #[tactic(auto, unfolding(crate::specs::Reading::tested_at))]
 pub fn count_at(total: usize, bytes: &[u8]) -> Result<(u32, &[u8]), WireFault>
@@ -88,6 +100,19 @@ pub fn count_at(total: usize, bytes: &[u8]) -> Result<(u32, &[u8]), WireFault>
 {
     let (n, rest) = u32_at(total, bytes)?;
     if n <= 1_048_576 {
+        Ok((n, rest))
+    } else {
+        Err(fault_at(total, bytes))
+    }
+}
+
+/// The number of an entry.
+#[tactic(auto, unfolding(crate::specs::Reading::tested_at))]
+pub fn entry_number_at(total: usize, bytes: &[u8]) -> Result<(u32, &[u8]), WireFault>
+    ensures { GivesBy (λ x. (x.0, x.1.now)) result (tested_at w32 is_number total bytes.now) }
+{
+    let (n, rest) = u32_at(total, bytes)?;
+    if n >= 1 && n <= 1_048_576 {
         Ok((n, rest))
     } else {
         Err(fault_at(total, bytes))
@@ -136,9 +161,12 @@ pub fn column_at(total: usize, depth: u8, bytes: &[u8]) -> Result<(u16, &[u8]), 
     }
 }
 
-fn columns(depth: u8) -> u16
+/// How many columns a row of this depth has.
+#[tactic(auto, using(crate::proofs::Ranges::narrow))]
+pub fn columns(depth: u8) -> u16
     requires { depth ≤ 11 }
-    ensures { result ≡ 2 ^ depth }
+    ensures value { result ≡ 2 ^ depth }
+    ensures few { result ≤ 2048 }
 {
     1 << depth
 }
@@ -213,7 +241,7 @@ pub fn form_at(total: usize, bytes: &[u8]) -> Result<(u8, &[u8]), WireFault>
     }
 }
 
-/// The code of a refusal that has a message.
+/// The code of a refusal.
 #[tactic(auto, unfolding(crate::specs::Reading::byte_at))]
 pub fn code_at(total: usize, bytes: &[u8]) -> Result<(u8, &[u8]), WireFault>
     ensures { GivesBy (λ x. (x.0, x.1.now)) result (byte_at is_code total bytes.now) }
@@ -221,7 +249,41 @@ pub fn code_at(total: usize, bytes: &[u8]) -> Result<(u8, &[u8]), WireFault>
     match bytes {
         [] => Err(fault_at(total, bytes)),
         [b, rest @ ..] => {
-            if *b == 1 || *b == 2 || *b == 3 || *b == 14 {
+            if *b >= 1 && *b <= 14 {
+                Ok((*b, rest))
+            } else {
+                Err(fault_at(total, bytes))
+            }
+        }
+    }
+}
+
+/// What an update does: 1 posts, 2 removes.
+#[tactic(auto, unfolding(crate::specs::Reading::byte_at))]
+pub fn change_at(total: usize, bytes: &[u8]) -> Result<(u8, &[u8]), WireFault>
+    ensures { GivesBy (λ x. (x.0, x.1.now)) result (byte_at is_change total bytes.now) }
+{
+    match bytes {
+        [] => Err(fault_at(total, bytes)),
+        [b, rest @ ..] => {
+            if *b >= 1 && *b <= 2 {
+                Ok((*b, rest))
+            } else {
+                Err(fault_at(total, bytes))
+            }
+        }
+    }
+}
+
+/// A role: 0 leads, 1 follows.
+#[tactic(auto, unfolding(crate::specs::Reading::byte_at))]
+pub fn role_at(total: usize, bytes: &[u8]) -> Result<(u8, &[u8]), WireFault>
+    ensures { GivesBy (λ x. (x.0, x.1.now)) result (byte_at is_role total bytes.now) }
+{
+    match bytes {
+        [] => Err(fault_at(total, bytes)),
+        [b, rest @ ..] => {
+            if *b <= 1 {
                 Ok((*b, rest))
             } else {
                 Err(fault_at(total, bytes))
@@ -257,4 +319,27 @@ pub fn id_at(total: usize, bytes: &[u8]) -> Result<(UpdateId, &[u8]), WireFault>
     }
     let member = MemberId(u32_of(member));
     Ok((UpdateId { member, serial }, rest))
+}
+
+pub fn tag_of(bytes: &[u8]) -> Tag
+    requires { length bytes.now ≡ 16 }
+    ensures { result ≡ tag_number bytes.now }
+{
+    let mut sixteen = [0u8; 16];
+    sixteen.copy_from_slice(bytes);
+    Tag::of(sixteen)
+}
+
+/// The shape of a depth and a number of probes that are in range.
+pub fn shape_of(depth: u8, probes: u8) -> Shape
+    requires low { 8 ≤ depth }
+    requires high { depth ≤ 11 }
+    requires some { 1 ≤ probes }
+    requires few { probes ≤ 8 }
+    ensures { result ≡ record { depth = depth; probes = probes } }
+{
+    match Shape::new(depth, probes) {
+        Some(shape) => shape,
+        None => unreachable!(),
+    }
 }

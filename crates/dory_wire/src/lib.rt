@@ -8,15 +8,21 @@ mod encode;
 mod fault;
 mod field;
 mod frame;
+mod framer;
 mod message;
 mod packed;
+mod refused;
 mod spell;
+mod staged;
 
 pub use decode::{decode_reply, decode_request};
 pub use encode::{encode_reply, encode_request};
 pub use fault::WireFault;
 pub use frame::whole_message;
+pub use framer::{FrameFault, Framer};
 pub use message::{Reply, Request, Want, What};
 
+#[cfg(test)]
+mod framer_tests;
 #[cfg(test)]
 mod tests;

@@ -1,6 +1,8 @@
 //! What a member asks, and what a domain answers.
+ghost use Rattle.std.specs.Prelude.{◌≡◌};
+ghost use Rattle.dory_wire.specs.Read.{is_read};
 
-use dory_base::{AskId, FolderId, Found, Keys, Refusal, Shape};
+use dory_base::{AskId, Entry, FolderId, Found, Keys, Refusal, Shape, UpdateId};
 
 /// What is asked of a folder.
 #[derive(Debug, Drop)]
@@ -13,6 +15,39 @@ pub enum Want {
         shape: Shape,
         keys: Keys,
     },
+    /// The id of the update of this number, where the first has number 1.
+    Which {
+        number: u32,
+    },
+    /// To keep an update until it is ordered.
+    Stage {
+        entry: Entry,
+    },
+    /// To give a staged update the next number.
+    Order {
+        id: UpdateId,
+    },
+    /// To give a staged update the number that the lead gave it.
+    Follow {
+        number: u32,
+        id: UpdateId,
+    },
+}
+
+impl Want {
+    /// Whether it only reads.
+    pub fn is_read(&self) -> bool
+        ensures { result ≡ is_read self.now }
+    {
+        match self {
+            Want::Latest => true,
+            Want::Search { .. } => true,
+            Want::Which { .. } => false,
+            Want::Stage { .. } => false,
+            Want::Order { .. } => false,
+            Want::Follow { .. } => false,
+        }
+    }
 }
 
 #[derive(Debug, Drop)]
@@ -27,6 +62,9 @@ pub struct Request {
 pub enum What {
     At { length: u32 },
     Found { found: Found },
+    Id { number: u32, id: UpdateId },
+    Staged { id: UpdateId },
+    Committed { number: u32, id: UpdateId },
     Refused { code: Refusal },
 }
 

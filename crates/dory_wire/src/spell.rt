@@ -2,10 +2,13 @@
 ghost use Rattle.std.specs.Prelude.{◌≡◌, ◌++◌, ◌∷◌, ◌<◌, ◌≤◌, ◌+◌, ◌*◌, ◌/◌, ◌%◌, ◌^◌, [], IfOk, OnOk, length, slice_index};
 ghost use Rattle.std.specs.List.{flat_map};
 ghost use Rattle.std.specs.Int.{w16, to_be_bytes};
-ghost use Rattle.dory_wire.specs.Spelling.{ask, four, found, id, line, packed, refusal, sum, want, want_kind, what, what_kind, IsFound, IsWhat};
+ghost use Rattle.dory_base.specs.TagBytes.{tag_bytes};
+ghost use Rattle.dory_wire.specs.Spelling.{ask, change, entry, four, found, id, line, packed, refusal, refusal_code, refusal_fields, role_byte, sum, want, want_kind, what, what_kind, IsFound, IsWhat};
 
 use crate::message::{Want, What};
-use dory_base::{AskId, Bits, Found, NoMemory, Place, Refusal, Sum, UpdateId};
+use dory_base::{
+    AskId, Bits, Change, Entry, Found, NoMemory, Place, Refusal, Side, Sum, Tag, UpdateId,
+};
 
 pub fn put_u32(out: &mut Vec<u8>, n: u32) -> Result<(), NoMemory>
     ensures { OnOk result (out.new.items ≡ out.old.items ++ four n) }
@@ -39,6 +42,45 @@ fn put_columns(out: &mut Vec<u8>, columns: &[u16]) -> Result<(), NoMemory>
     Ok(())
 }
 
+fn put_tags(out: &mut Vec<u8>, tags: &[Tag]) -> Result<(), NoMemory>
+    ensures { OnOk result (out.new.items ≡ out.old.items ++ flat_map tag_bytes tags.now) }
+{
+    for tag in tags {
+        out.extend_from_slice(&tag.bytes())?;
+    }
+    Ok(())
+}
+
+fn put_change(out: &mut Vec<u8>, done: &Change) -> Result<(), NoMemory>
+    ensures { OnOk result (out.new.items ≡ out.old.items ++ change done.now) }
+{
+    match done {
+        Change::Post { shape, row, tags } => {
+            out.push(1)?;
+            out.push(shape.depth())?;
+            out.push(shape.probes())?;
+            put_bits(out, row)?;
+            put_tags(out, tags.items())
+        }
+        Change::Remove => Ok(out.push(2)?),
+    }
+}
+
+fn put_entry(out: &mut Vec<u8>, update: &Entry) -> Result<(), NoMemory>
+    ensures { OnOk result (out.new.items ≡ out.old.items ++ entry update.now) }
+{
+    put_id(out, &update.id)?;
+    put_u32(out, update.doc.0)?;
+    put_change(out, &update.change)
+}
+
+fn put_numbered(out: &mut Vec<u8>, number: u32, name: &UpdateId) -> Result<(), NoMemory>
+    ensures { OnOk result (out.new.items ≡ out.old.items ++ (four number ++ id name.now)) }
+{
+    put_u32(out, number)?;
+    put_id(out, name)
+}
+
 pub fn put_want(out: &mut Vec<u8>, wanted: &Want) -> Result<(), NoMemory>
     ensures { OnOk result (out.new.items ≡ out.old.items ++ want wanted.now) }
 {
@@ -55,6 +97,10 @@ pub fn put_want(out: &mut Vec<u8>, wanted: &Want) -> Result<(), NoMemory>
             out.push(0xf0)?;
             put_columns(out, keys.items())
         }
+        Want::Which { number } => put_u32(out, *number),
+        Want::Stage { entry } => put_entry(out, entry),
+        Want::Order { id } => put_id(out, id),
+        Want::Follow { number, id } => put_numbered(out, *number, id),
     }
 }
 
@@ -64,6 +110,10 @@ pub fn kind_of_want(wanted: &Want) -> u8
     match wanted {
         Want::Latest => 1,
         Want::Search { .. } => 2,
+        Want::Which { .. } => 3,
+        Want::Stage { .. } => 4,
+        Want::Order { .. } => 5,
+        Want::Follow { .. } => 6,
     }
 }
 
@@ -131,26 +181,67 @@ fn put_found(out: &mut Vec<u8>, holding: &Found) -> Result<(), NoMemory>
     put_sums(out, sums)
 }
 
+fn byte_of_role(role: &Side) -> u8
+    ensures { result ≡ role_byte role.now }
+{
+    match role {
+        Side::Lead => 0,
+        Side::Follow => 1,
+    }
+}
+
+fn byte_of_code(code: &Refusal) -> u8
+    ensures { result ≡ refusal_code code.now }
+{
+    match code {
+        Refusal::NoFolder => 1,
+        Refusal::ShapeWrong { .. } => 2,
+        Refusal::Unretained { .. } => 3,
+        Refusal::BadMember { .. } => 4,
+        Refusal::Past { .. } => 5,
+        Refusal::Clash { .. } => 6,
+        Refusal::Unfinished { .. } => 7,
+        Refusal::Unstaged { .. } => 8,
+        Refusal::Taken { .. } => 9,
+        Refusal::Gap { .. } => 10,
+        Refusal::WrongRole { .. } => 11,
+        Refusal::HistoryFull => 12,
+        Refusal::NoEntry { .. } => 13,
+        Refusal::NoMemory => 14,
+    }
+}
+
+fn put_pair(out: &mut Vec<u8>, first: u32, second: u32) -> Result<(), NoMemory>
+    ensures { OnOk result (out.new.items ≡ out.old.items ++ (four first ++ four second)) }
+{
+    put_u32(out, first)?;
+    put_u32(out, second)
+}
+
+fn put_fields(out: &mut Vec<u8>, code: &Refusal) -> Result<(), NoMemory>
+    ensures { OnOk result (out.new.items ≡ out.old.items ++ refusal_fields code.now) }
+{
+    match code {
+        Refusal::NoFolder | Refusal::HistoryFull | Refusal::NoMemory => Ok(()),
+        Refusal::ShapeWrong { depth, probes } => Ok(out.extend_from_slice(&[*depth, *probes])?),
+        Refusal::Unretained { oldest, newest } => put_pair(out, *oldest, *newest),
+        Refusal::BadMember { member } => put_u32(out, member.0),
+        Refusal::Past { last } => Ok(out.extend_from_slice(&last.to_be_bytes())?),
+        Refusal::Clash { id } => put_id(out, id),
+        Refusal::Unfinished { id } => put_id(out, id),
+        Refusal::Unstaged { id } => put_id(out, id),
+        Refusal::Taken { number, id } => put_numbered(out, *number, id),
+        Refusal::WrongRole { role } => Ok(out.push(byte_of_role(role))?),
+        Refusal::Gap { length } => put_u32(out, *length),
+        Refusal::NoEntry { length } => put_u32(out, *length),
+    }
+}
+
 fn put_refusal(out: &mut Vec<u8>, code: &Refusal) -> Result<(), NoMemory>
     ensures { OnOk result (out.new.items ≡ out.old.items ++ refusal code.now) }
 {
-    match code {
-        Refusal::NoFolder => out.push(1)?,
-        Refusal::ShapeWrong { depth, probes } => {
-            out.push(2)?;
-            out.push(*depth)?;
-            out.push(*probes)?;
-        }
-        Refusal::Unretained { oldest, newest } => {
-            out.push(3)?;
-            put_u32(out, *oldest)?;
-            put_u32(out, *newest)?;
-        }
-        Refusal::NoMemory => out.push(14)?,
-        // The others have no message.
-        _ => {}
-    }
-    Ok(())
+    out.push(byte_of_code(code))?;
+    put_fields(out, code)
 }
 
 pub fn put_what(out: &mut Vec<u8>, answered: &What) -> Result<(), NoMemory>
@@ -160,6 +251,9 @@ pub fn put_what(out: &mut Vec<u8>, answered: &What) -> Result<(), NoMemory>
     match answered {
         What::At { length } => put_u32(out, *length),
         What::Found { found } => put_found(out, found),
+        What::Id { number, id } => put_numbered(out, *number, id),
+        What::Staged { id } => put_id(out, id),
+        What::Committed { number, id } => put_numbered(out, *number, id),
         What::Refused { code } => put_refusal(out, code),
     }
 }
@@ -170,6 +264,9 @@ pub fn kind_of_what(answered: &What) -> u8
     match answered {
         What::At { .. } => 0x81,
         What::Found { .. } => 0x82,
+        What::Id { .. } => 0x83,
+        What::Staged { .. } => 0x84,
+        What::Committed { .. } => 0x85,
         What::Refused { .. } => 0x86,
     }
 }

@@ -1,6 +1,12 @@
 //! Messages whose bytes are known, and the first fault of bytes that are no message.
+ghost use Rattle.std.specs.Prelude.{◌≤◌};
+ghost use Rattle.dory_wire.specs.Spelling.{IsId, IsRefusal, IsReply, IsRequest};
+
 use super::*;
-use dory_base::{AskId, FolderId, Keys, MemberId, Refusal, Shape};
+use dory_base::{
+    AskId, Change, DocId, Entry, FolderId, Keys, MemberId, NoMemory, Refusal, Shape, Side, UpdateId,
+};
+use std::alloc::Global;
 use std::test::*;
 
 const LATEST: [u8; 25] = [
@@ -21,6 +27,51 @@ const FOUND: [u8; 80] = [
     0xaa, 0xaa, 0xaa, 0xaa, 0xaa, 0xaa, 0xaa, 0xaa, 0xaa, 0xaa, 0xaa, 0xaa, 0xaa, 0xaa, 0xaa, 0xaa,
     0, // the bits of probe 1, and its tag
     0xbb, 0xbb, 0xbb, 0xbb, 0xbb, 0xbb, 0xbb, 0xbb, 0xbb, 0xbb, 0xbb, 0xbb, 0xbb, 0xbb, 0xbb, 0xbb,
+];
+
+// Which 1, ask 1.1.4.
+const WHICH: [u8; 29] = [
+    0, 0, 0, 0x19, 3, 0, 0, 0, 1, 0, 0, 0, 0, 0, 0, 0, 1, 0, 0, 0, 4, 0, 0, 0, 1, 0, 0, 0, 1,
+];
+
+// Stage of a removal of 7, id 0.2, ask 0.2.0.
+const STAGE: [u8; 42] = [
+    0, 0, 0, 0x26, 4, 0, 0, 0, 0, 0, 0, 0, 0, 0, 0, 0, 2, 0, 0, 0, 0, 0, 0, 0, 1, 0, 0, 0, 0, 0, 0,
+    0, 0, 0, 0, 0, 2, 0, 0, 0, 7, 2,
+];
+
+// Order 1.1, ask 1.1.2.
+const ORDER: [u8; 37] = [
+    0, 0, 0, 0x21, 5, 0, 0, 0, 1, 0, 0, 0, 0, 0, 0, 0, 1, 0, 0, 0, 2, 0, 0, 0, 1, 0, 0, 0, 1, 0, 0,
+    0, 0, 0, 0, 0, 1,
+];
+
+// Follow 2, id 1.1, ask 1.1.3.
+const FOLLOW: [u8; 41] = [
+    0, 0, 0, 0x25, 6, 0, 0, 0, 1, 0, 0, 0, 0, 0, 0, 0, 1, 0, 0, 0, 3, 0, 0, 0, 1, 0, 0, 0, 2, 0, 0,
+    0, 1, 0, 0, 0, 0, 0, 0, 0, 1,
+];
+
+// Refused Gap 0 to it.
+const GAP: [u8; 26] = [
+    0, 0, 0, 0x16, 0x86, 0, 0, 0, 1, 0, 0, 0, 0, 0, 0, 0, 1, 0, 0, 0, 3, 0xa, 0, 0, 0, 0,
+];
+
+// At 0, ask 1.2.1.
+const AT_0: [u8; 25] = [
+    0, 0, 0, 0x15, 0x81, 0, 0, 0, 1, 0, 0, 0, 0, 0, 0, 0, 2, 0, 0, 0, 1, 0, 0, 0, 0,
+];
+
+// Committed 1 with 1.1, ask 1.1.2.
+const COMMITTED: [u8; 37] = [
+    0, 0, 0, 0x21, 0x85, 0, 0, 0, 1, 0, 0, 0, 0, 0, 0, 0, 1, 0, 0, 0, 2, 0, 0, 0, 1, 0, 0, 0, 1, 0,
+    0, 0, 0, 0, 0, 0, 1,
+];
+
+// Staged 1.1, ask 1.1.2.
+const STAGED: [u8; 33] = [
+    0, 0, 0, 0x1d, 0x84, 0, 0, 0, 1, 0, 0, 0, 0, 0, 0, 0, 1, 0, 0, 0, 2, 0, 0, 0, 1, 0, 0, 0, 0, 0,
+    0, 0, 1,
 ];
 
 fn ask() -> AskId {
@@ -87,7 +138,7 @@ fn a_search_is_read_back(rt: HostRuntime) -> Result<(), Fail> {
             assert_eq!(rt; version, 9);
             assert_eq!(rt; keys.items(), [7, 255].as_slice());
         }
-        Want::Latest => return Err("a search is no latest".into()),
+        _ => return Err("a search is no other request".into()),
     }
     Ok(())
 }
@@ -192,39 +243,283 @@ fn a_found_lies_in_its_frame_as_said(rt: HostRuntime) -> Result<(), Fail> {
     Ok(())
 }
 
-#[test]
-fn each_refusal_of_this_grammar_is_read_back(rt: HostRuntime) -> Result<(), Fail> {
-    let codes = [
-        (Refusal::NoFolder, 1),
-        (
-            Refusal::ShapeWrong {
-                depth: 8,
-                probes: 2,
-            },
-            3,
-        ),
-        (
-            Refusal::Unretained {
-                oldest: 0,
-                newest: 5,
-            },
-            9,
-        ),
-        (Refusal::NoMemory, 1),
-    ];
-    for (code, len) in codes {
-        let reply = Reply {
-            ask: ask(),
-            what: What::Refused { code },
-        };
-        let frame = encode_reply(rt.alloc(), &reply).ok().ok_or("a frame")?;
-        assert_eq!(rt; frame.len(), 21 + len);
-        let message = whole_message(&frame).ok_or("a message")?;
-        let read = decode_reply(rt.alloc(), message).ok().ok_or("a reply")?;
-        match read.what {
-            What::Refused { code: back } => assert_eq!(rt; back, code),
-            _ => return Err("a refusal is no other reply".into()),
-        }
+fn by(member: u32, serial: u64, step: u32) -> AskId {
+    AskId {
+        member: MemberId(member),
+        serial,
+        step,
     }
+}
+
+fn update(member: u32, serial: u64) -> UpdateId
+    requires { 1 ≤ serial }
+    ensures { IsId result }
+{
+    UpdateId {
+        member: MemberId(member),
+        serial,
+    }
+}
+
+// The request is written as this frame, and the frame is read and written again.
+fn is_request(alloc: Global, request: &Request, frame: &[u8]) -> bool
+    requires { IsRequest request.now }
+{
+    let Ok(written) = encode_request(alloc, request) else {
+        return false;
+    };
+    written.as_slice() == frame && is_request_frame(alloc, frame)
+}
+
+fn is_request_frame(alloc: Global, frame: &[u8]) -> bool {
+    let Some(message) = whole_message(frame) else {
+        return false;
+    };
+    let Ok(read) = decode_request(alloc, message) else {
+        return false;
+    };
+    match encode_request(alloc, &read) {
+        Ok(again) => again.as_slice() == frame,
+        Err(NoMemory) => false,
+    }
+}
+
+fn is_reply(alloc: Global, reply: &Reply, frame: &[u8]) -> bool
+    requires { IsReply reply.now }
+{
+    let Ok(written) = encode_reply(alloc, reply) else {
+        return false;
+    };
+    let Some(message) = whole_message(frame) else {
+        return false;
+    };
+    let Ok(read) = decode_reply(alloc, message) else {
+        return false;
+    };
+    match encode_reply(alloc, &read) {
+        Ok(again) => written.as_slice() == frame && again.as_slice() == frame,
+        Err(NoMemory) => false,
+    }
+}
+
+#[test]
+fn each_request_of_the_update_log_is_these_bytes_both_ways(rt: HostRuntime) {
+    let which = Request {
+        ask: by(1, 1, 4),
+        folder: FolderId(1),
+        want: Want::Which { number: 1 },
+    };
+    assert!(rt; is_request(rt.alloc(), &which, &WHICH));
+    let entry = Entry {
+        id: update(0, 2),
+        doc: DocId(7),
+        change: Change::Remove,
+    };
+    let stage = Request {
+        ask: by(0, 2, 0),
+        folder: FolderId(1),
+        want: Want::Stage { entry },
+    };
+    assert!(rt; is_request(rt.alloc(), &stage, &STAGE));
+    let order = Request {
+        ask: by(1, 1, 2),
+        folder: FolderId(1),
+        want: Want::Order { id: update(1, 1) },
+    };
+    assert!(rt; is_request(rt.alloc(), &order, &ORDER));
+    let follow = Request {
+        ask: by(1, 1, 3),
+        folder: FolderId(1),
+        want: Want::Follow {
+            number: 2,
+            id: update(1, 1),
+        },
+    };
+    assert!(rt; is_request(rt.alloc(), &follow, &FOLLOW));
+}
+
+#[test]
+fn each_reply_of_the_update_log_is_these_bytes_both_ways(rt: HostRuntime) {
+    let gap = Reply {
+        ask: by(1, 1, 3),
+        what: What::Refused {
+            code: Refusal::Gap { length: 0 },
+        },
+    };
+    assert!(rt; is_reply(rt.alloc(), &gap, &GAP));
+    let none = Reply {
+        ask: by(1, 2, 1),
+        what: What::At { length: 0 },
+    };
+    assert!(rt; is_reply(rt.alloc(), &none, &AT_0));
+    let mut committed = COMMITTED;
+    let what = What::Committed {
+        number: 1,
+        id: update(1, 1),
+    };
+    let reply = Reply {
+        ask: by(1, 1, 2),
+        what,
+    };
+    assert!(rt; is_reply(rt.alloc(), &reply, &committed));
+    committed[4] = 0x83;
+    let what = What::Id {
+        number: 1,
+        id: update(1, 1),
+    };
+    let reply = Reply {
+        ask: by(1, 1, 2),
+        what,
+    };
+    assert!(rt; is_reply(rt.alloc(), &reply, &committed));
+    let what = What::Staged { id: update(1, 1) };
+    let reply = Reply {
+        ask: by(1, 1, 2),
+        what,
+    };
+    assert!(rt; is_reply(rt.alloc(), &reply, &STAGED));
+}
+
+fn zeros(alloc: Global, n: usize) -> Result<Vec<u8>, NoMemory> {
+    Ok(vec![in alloc; 0u8; n]?)
+}
+
+fn put(bytes: &mut [u8], at: usize, byte: u8) {
+    if let Some(b) = bytes.get_mut(at) {
+        *b = byte;
+    }
+}
+
+#[test]
+fn a_post_of_depth_8_takes_4168_bytes(rt: HostRuntime) -> Result<(), Fail> {
+    let mut frame = zeros(rt.alloc(), 4172).ok().ok_or("memory")?;
+    for (at, byte) in STAGE.iter().enumerate() {
+        put(&mut frame, at, *byte);
+    }
+    put(&mut frame, 2, 0x10);
+    put(&mut frame, 3, 0x48);
+    put(&mut frame, 41, 1);
+    put(&mut frame, 42, 8);
+    put(&mut frame, 43, 2);
+    put(&mut frame, 45, 2); // bit 9 of the row
+    put(&mut frame, 75, 0x80); // bit 255
+    put(&mut frame, 4171, 5); // the lowest byte of the last tag
+    assert!(rt; is_request_frame(rt.alloc(), &frame));
+    let message = whole_message(&frame).ok_or("a message")?;
+    let read = decode_request(rt.alloc(), message).ok().ok_or("a request")?;
+    let Want::Stage { entry } = &read.want else {
+        return Err("a stage is no other request".into());
+    };
+    let Change::Post { row, tags, .. } = &entry.change else {
+        return Err("a post is no removal".into());
+    };
+    assert_eq!(rt;
+        row.words(),
+        [0x200, 0, 0, 0x8000_0000_0000_0000].as_slice()
+    );
+    assert_eq!(rt; tags.items().len(), 256);
+    assert_eq!(rt; tags.items().last().map(|t| t.bytes()[15]), Some(5));
+    // One byte short: the last tag is the field that is cut short.
+    assert!(rt;
+        matches!(
+            decode_request(rt.alloc(), message.get(..4167).ok_or("a part")?),
+            Err(WireFault::Body { at: 4152 })
+        )
+    );
     Ok(())
+}
+
+// A message with one byte changed has its first fault at this place.
+fn faults_at(alloc: Global, frame: &[u8], at: usize, byte: u8, place: usize) -> bool {
+    let Ok(mut bytes) = frame.to_vec(alloc) else {
+        return false;
+    };
+    put(&mut bytes, at, byte);
+    let Some(message) = whole_message(&bytes) else {
+        return false;
+    };
+    let is_asked = match message.first() {
+        Some(kind) => *kind < 0x80,
+        None => false,
+    };
+    let found = if is_asked {
+        decode_request(alloc, message).err()
+    } else {
+        decode_reply(alloc, message).err()
+    };
+    match found {
+        Some(WireFault::Body { at }) => at == place,
+        _ => false,
+    }
+}
+
+#[test]
+fn a_number_a_serial_a_change_and_a_code_are_held_to_their_ranges(rt: HostRuntime) {
+    assert!(rt; faults_at(rt.alloc(), &WHICH, 28, 0, 21));
+    assert!(rt; faults_at(rt.alloc(), &WHICH, 26, 0x11, 21));
+    assert!(rt; faults_at(rt.alloc(), &STAGE, 36, 0, 21));
+    assert!(rt; faults_at(rt.alloc(), &STAGE, 41, 3, 37));
+    assert!(rt; faults_at(rt.alloc(), &ORDER, 36, 0, 21));
+    assert!(rt; faults_at(rt.alloc(), &FOLLOW, 28, 0, 21));
+    assert!(rt; faults_at(rt.alloc(), &FOLLOW, 40, 0, 25));
+    assert!(rt; faults_at(rt.alloc(), &COMMITTED, 24, 0, 17));
+    assert!(rt; faults_at(rt.alloc(), &COMMITTED, 36, 0, 21));
+    assert!(rt; faults_at(rt.alloc(), &STAGED, 32, 0, 17));
+    assert!(rt; faults_at(rt.alloc(), &GAP, 21, 15, 17));
+    assert!(rt; faults_at(rt.alloc(), &GAP, 23, 0x11, 18));
+}
+
+// Whether a refusal's message has so many bytes after the ask, and is read back.
+fn is_refusal(alloc: Global, code: Refusal, len: usize) -> bool
+    requires { IsRefusal code }
+{
+    let reply = Reply {
+        ask: by(3, 2, 0),
+        what: What::Refused { code },
+    };
+    let Ok(frame) = encode_reply(alloc, &reply) else {
+        return false;
+    };
+    let Some(message) = whole_message(&frame) else {
+        return false;
+    };
+    match decode_reply(alloc, message) {
+        Ok(read) => match read.what {
+            What::Refused { code: back } => back == code && message.len().saturating_sub(17) == len,
+            _ => false,
+        },
+        Err(_) => false,
+    }
+}
+
+#[test]
+fn each_refusal_is_read_back(rt: HostRuntime) {
+    let alloc = rt.alloc();
+    let id = update(63, 1);
+    let (depth, probes) = (8, 2);
+    let (oldest, newest) = (0, 5);
+    let member = MemberId(u32::MAX);
+    assert!(rt; is_refusal(alloc, Refusal::NoFolder, 1));
+    assert!(rt; is_refusal(alloc, Refusal::ShapeWrong { depth, probes }, 3));
+    assert!(rt; is_refusal(alloc, Refusal::Unretained { oldest, newest }, 9));
+    assert!(rt; is_refusal(alloc, Refusal::BadMember { member }, 5));
+    assert!(rt; is_refusal(alloc, Refusal::Past { last: 0 }, 9));
+    assert!(rt; is_refusal(alloc, Refusal::Clash { id }, 13));
+    assert!(rt; is_refusal(alloc, Refusal::Unfinished { id }, 13));
+    assert!(rt; is_refusal(alloc, Refusal::Unstaged { id }, 13));
+}
+
+#[test]
+fn each_later_refusal_is_read_back(rt: HostRuntime) {
+    let alloc = rt.alloc();
+    let id = update(63, 1);
+    let number = 1_048_576;
+    let length = 1_048_576;
+    assert!(rt; is_refusal(alloc, Refusal::Taken { number, id }, 17));
+    assert!(rt; is_refusal(alloc, Refusal::Gap { length }, 5));
+    assert!(rt; is_refusal(alloc, Refusal::WrongRole { role: Side::Lead }, 2));
+    assert!(rt; is_refusal(alloc, Refusal::WrongRole { role: Side::Follow }, 2));
+    assert!(rt; is_refusal(alloc, Refusal::HistoryFull, 1));
+    assert!(rt; is_refusal(alloc, Refusal::NoEntry { length: 0 }, 5));
+    assert!(rt; is_refusal(alloc, Refusal::NoMemory, 1));
 }
