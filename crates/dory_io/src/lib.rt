@@ -3,6 +3,7 @@
 
 mod fails;
 mod keeper;
+mod output;
 mod sink;
 mod source;
 #[cfg(test)]
@@ -11,5 +12,6 @@ mod tests;
 pub use dory_base::Failed;
 pub use fails::Fails;
 pub use keeper::{KeepError, Keeper, MemKeeper};
+pub use output::write_all;
 pub use sink::{Sink, VecSink};
 pub use source::{Source, VecSource};
