@@ -1,0 +1,41 @@
+//! Why bytes are no kept state.
+ghost use Rattle.std.specs.Prelude.{◌≡◌};
+ghost use Rattle.dory_state.specs.declared.fault.StateFault.TheVariants.{NoMemory};
+
+use std::alloc::{AllocError, AllocFailed};
+
+/// The first thing that is wrong with the bytes. Places count from the first byte.
+#[derive(Clone, Copy, Debug, PartialEq, Eq)]
+pub enum StateFault {
+    /// The first eight bytes are those of neither form.
+    Header,
+    /// The bytes, so many in all, end in a field, or go on after the last one.
+    Length { got: usize },
+    /// The field that begins at this byte is out of range.
+    Field { at: usize },
+    NoMemory,
+}
+
+impl From<AllocError> for StateFault {
+    ghost from_gives = { λ _ e. e ≡ NoMemory };
+
+    fn from(_error: AllocError) -> StateFault {
+        StateFault::NoMemory
+    }
+}
+
+impl<T: Drop> From<AllocFailed<T>> for StateFault {
+    ghost from_gives = { λ _ e. e ≡ NoMemory };
+
+    fn from(_error: AllocFailed<T>) -> StateFault {
+        StateFault::NoMemory
+    }
+}
+
+impl From<dory_base::NoMemory> for StateFault {
+    ghost from_gives = { λ _ e. e ≡ NoMemory };
+
+    fn from(_error: dory_base::NoMemory) -> StateFault {
+        StateFault::NoMemory
+    }
+}
