@@ -1,0 +1,7 @@
+pub mod Walks
+pub mod Numerals
+pub mod Levels
+pub mod InitReads
+pub mod Places
+pub mod Barring
+pub mod WordReads

@@ -1,0 +1,8 @@
+pub mod Words
+pub mod Barred
+pub mod Numbers
+pub mod Texts
+pub mod Commands
+pub mod Values
+pub mod Line
+pub mod Rules
