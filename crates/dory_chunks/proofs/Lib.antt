@@ -1,0 +1,6 @@
+pub mod RowBlock
+pub mod MarkLaws
+pub mod PartLaws
+pub mod ColumnLaws
+pub mod TargetLaws
+pub mod VersionLaws
