@@ -4,6 +4,7 @@ use Rattle.std.specs.List.{range_with_len}
 use Rattle.std.proofs.lemmas.List.{length-map, get_or-map, get_or-take, length-take-le}
 use Rattle.std.proofs.lemmas.List.Folds.{list_any_at}
 use Rattle.std.proofs.lemmas.List.FromFn.{length-range_with_len, get_or-range_with_len}
+use Rattle.dory_base.specs.declared.ids.Side.{Side}
 use Rattle.dory_domain.specs.declared.config.FolderConfig.{FolderConfig}
 use Rattle.dory_domain.specs.declared.config.ConfigFault.{ConfigFault}
 use Rattle.dory_domain.specs.declared.config.ConfigFault.TheVariants.{Folders}
@@ -68,12 +69,12 @@ apart_at configs none i j low h = λ same.
     true≢false (sym found ∙ not_earlier configs none j h)
 
 -- folders that begin from such a list are a domain's folders
-pub held_opened : (configs : List FolderConfig) → config_fault_of configs ≡ None → (folders : List Held) → folders ≡ map opened configs → AreHeld folders
-held_opened configs none folders are =
+pub all_opened : (role : Side) (configs : List FolderConfig) → config_fault_of configs ≡ None → (folders : List Held) → folders ≡ map (opened role) configs → AreHeld folders
+all_opened role configs none folders are =
     let ok : HasNoFault configs = faultless configs none in
-    let same : length (map opened configs) ≡ length configs = length-map configs opened in
-    let number : (k : ℕ) (d : Held) → k < length configs → (get_or (map opened configs) k d).number ≡ (get_or configs k nowhere).folder.0 =
-    λ k d low. ap (λ (f : Held). f.number) (get_or-map opened configs k nowhere d low) in
+    let same : length (map (opened role) configs) ≡ length configs = length-map configs (opened role) in
+    let number : (k : ℕ) (d : Held) → k < length configs → (get_or (map (opened role) configs) k d).number ≡ (get_or configs k nowhere).folder.0 =
+    λ k d low. ap (λ (f : Held). f.number) (get_or-map (opened role) configs k nowhere d low) in
     subst AreHeld (sym are) (record {
       few = omega (arith, ok.few, same);
       distinct = λ i j d low high. λ eq.

@@ -9,18 +9,20 @@ use Rattle.dory_base.specs.declared.entry.Change.{Change}
 use Rattle.dory_base.specs.declared.entry.Change.TheVariants.{Post, Remove}
 use Rattle.dory_base.specs.declared.found.Place.{Place}
 use Rattle.dory_base.specs.declared.found.Sum.{Sum}
-use Rattle.dory_base.specs.History.{IsEntryOf, IsHistory, version_of}
+use Rattle.dory_base.specs.History.{version_of}
+use Rattle.dory_base.specs.Step.{IsId, State, IsState, ids_of}
+use Rattle.dory_base.proofs.StepLaws.{history_is}
 use Rattle.dory_base.specs.Table.{Slots, has_doc, placed, emptied, changed, step, live_from, live_of, place_of, manifest_of}
 use Rattle.dory_base.specs.TableMeaning.{Kept, IsKept, StandsFor}
 use Rattle.dory_base.proofs.TableLaws.{manifest_rises, length-live}
 use Rattle.dory_wire.specs.Spelling.{IsLine, IsSum, IsFound, AreColumns}
 use Rattle.dory_domain.specs.Held.{IsNamed}
-use Rattle.dory_domain.proofs.Lists.{all_more, all_set, all_take, all_both}
+use Rattle.dory_domain.proofs.Lists.{all_more, all_set, all_take}
 
 -- an update that a manifest's line can name
 record IsCarried (e : Entry) : Type 0 where
   pub named : IsNamed e
-  pub some : 1 ≤ e.id.serial
+  pub id : IsId e.id
 
 abbrev CarriedSlot : Option Entry → Type 0
 CarriedSlot None = Unit {0}
@@ -55,31 +57,32 @@ all_lines : (n : ℕ) (slots : Slots) → n + length slots ≤ 4096 → AllByRec
 all_lines n [] h all = tt
 all_lines n (None ∷ slots) h all = all_lines (n + 1) slots (omega arith) all.1
 all_lines n (Some e ∷ slots) h all =
-    (record { slot = omega arith; doc = all.0.named.doc; member = all.0.named.member; some = all.0.some; serial = all.0.named.serial }, all_lines (n + 1) slots (omega arith) all.1)
+    (record { slot = omega arith; doc = all.0.named; member = omega (arith, all.0.id.member); some = all.0.id.serial.some; serial = all.0.id.serial.few }, all_lines (n + 1) slots (omega arith) all.1)
 
-carried_all : (shape : Dims) (history : List Entry) → AllByRecursion (IsEntryOf shape) history → AllByRecursion IsNamed history → AllByRecursion IsCarried history
-carried_all shape history entries named = all_both (IsEntryOf shape) IsNamed IsCarried (λ e entry name. record { named = name; some = entry.serial }) history entries named
+carried_all : (history : List Entry) → AllByRecursion IsNamed history → AllByRecursion IsId (ids_of history) → AllByRecursion IsCarried history
+carried_all [] named ids = tt
+carried_all (e ∷ history) named ids = (record { named = named.0; id = ids.0 }, carried_all history named.1 ids.1)
 
-manifest_lines : (shape : Dims) (history : List Entry) (number : ℕ) (table : Kept) → IsHistory shape history → AllByRecursion IsNamed history → StandsFor table (version_of number history) → IsKept table → AllByRecursion IsLine (manifest_of table.slots)
-manifest_lines shape history number table is named stands kept =
-    let carried : AllByRecursion IsCarried (take number history) = all_take IsCarried number history (carried_all shape history is.entries named) in
-    let slots : AllByRecursion CarriedSlot table.slots = subst (AllByRecursion CarriedSlot) (sym stands.slots_are) (all_folded (take number history) [] carried tt) in
+manifest_lines : (s : State) (number : ℕ) (table : Kept) → IsState s → AllByRecursion IsNamed s.history → StandsFor table (version_of number s.history) → IsKept table → AllByRecursion IsLine (manifest_of table.slots)
+manifest_lines s number table is named stands kept =
+    let carried : AllByRecursion IsCarried (take number s.history) = all_take IsCarried number s.history (carried_all s.history named is.log.ids) in
+    let slots : AllByRecursion CarriedSlot table.slots = subst (AllByRecursion CarriedSlot) (sym stands.slots_are) (all_folded (take number s.history) [] carried tt) in
     all_lines 0 table.slots (omega (arith, kept.few)) slots
 
 few_lines : (table : Kept) → IsKept table → length (manifest_of table.slots) ≤ 4096
 few_lines table kept = omega (arith, kept.few, length-live 0 table.slots, length-map (live_of table.slots) place_of)
 
-pub found_range : (shape : Dims) (history : List Entry) (number : ℕ) (table : Kept) (manifest : List Place) (keys : List ℕ) (f : ℕ → Sum) (sums : List Sum)
-    → IsHistory shape history → AllByRecursion IsNamed history → number ≤ length history
-    → StandsFor table (version_of number history) → IsKept table → table.shape ≡ shape
-    → manifest ≡ manifest_of table.slots → AreColumns shape keys → sums ≡ map f keys → AllByRecursion (IsSum (length (manifest_of table.slots))) sums
+pub found_range : (s : State) (number : ℕ) (table : Kept) (manifest : List Place) (keys : List ℕ) (f : ℕ → Sum) (sums : List Sum)
+    → IsState s → AllByRecursion IsNamed s.history → number ≤ length s.history
+    → StandsFor table (version_of number s.history) → IsKept table → table.shape ≡ s.shape
+    → manifest ≡ manifest_of table.slots → AreColumns s.shape keys → sums ≡ map f keys → AllByRecursion (IsSum (length (manifest_of table.slots))) sums
     → IsFound (record { version = number; manifest = manifest; sums = sums })
-found_range shape history number table manifest keys f sums is named low stands kept same lines columns summed each =
-    let probes : table.shape.probes ≡ shape.probes = ap (λ (d : Dims). d.probes) same in
+found_range s number table manifest keys f sums is named low stands kept same lines columns summed each =
+    let probes : table.shape.probes ≡ s.shape.probes = ap (λ (d : Dims). d.probes) same in
     let many : length sums ≡ length keys = ap (length {A = Sum}) summed ∙ length-map keys f in
     let whole : IsFound (record { version = number; manifest = manifest_of table.slots; sums = sums }) = record {
-      version = omega (arith, is.few);
-      lines = manifest_lines shape history number table is named stands kept;
+      version = omega (arith, (history_is s is).few);
+      lines = manifest_lines s number table is named stands kept;
       rising = manifest_rises table.slots;
       many = few_lines table kept;
       probes = omega (arith, kept.dims.few, columns.many);

@@ -5,4 +5,5 @@ pub mod Selectors
 pub mod HeldLaws
 pub mod FoundLaws
 pub mod ConfigLaws
-pub mod SerialLaws
+pub mod RangeLaws
+pub mod StepHeld

@@ -1,3 +1,2 @@
 pub mod Config
 pub mod Held
-pub mod Serials

@@ -1,70 +1,87 @@
-//! One folder of a domain: its updates in order, and its answer to each request.
-ghost use Rattle.std.specs.Prelude.{◌≡◌, ◌<◌, ◌≤◌, ◌==◌, ◌≢◌, length, take, IfOk, OnErr};
-ghost use Rattle.std.specs.List.{AllByRecursion};
-ghost use Rattle.dory_base.specs.History.{IsEntryOf, version_of};
+//! One folder of a domain: its updates in order, what is staged, and its answer to each request.
+ghost use Rattle.std.specs.Prelude.{◌≡◌, ◌<◌, ◌≤◌, ◌==◌, length, take, IfOk, OnOk, OnErr};
+ghost use Rattle.dory_base.specs.declared.entry.Entry.{Entry as Update};
+ghost use Rattle.dory_base.specs.declared.plan.StagePlan.TheVariants.{New};
+ghost use Rattle.dory_base.specs.declared.plan.Plan.TheVariants.{Fresh};
+ghost use Rattle.dory_base.specs.History.{version_of};
+ghost use Rattle.dory_base.specs.Log.{look_stage, look_order, look_follow};
+ghost use Rattle.dory_base.specs.Step.{State, Event, log_of, after};
+ghost use Rattle.dory_base.specs.Step.Event.{Staged, Appended};
 ghost use Rattle.dory_base.specs.TableMeaning.{StandsFor};
-ghost use Rattle.dory_wire.specs.Read.{read_of, found_of, IsReadAs};
-ghost use Rattle.dory_wire.specs.Spelling.{AreColumns, IsWant, IsWhat, IsFound};
-ghost use Rattle.dory_domain.specs.Held.{IsHeld, IsNamed, IsNext, opened, with_entry};
+ghost use Rattle.dory_base.specs.declared.refusal.Refusal.TheVariants.{NoMemory as OutOfMemory};
+ghost use Rattle.dory_wire.specs.declared.message.What.TheVariants.{Refused};
+ghost use Rattle.dory_wire.specs.Read.{found_of, search_of, IsReadAs};
+ghost use Rattle.dory_wire.specs.Spelling.{AreColumns, IsEntry, IsId, IsNumber, IsWant, IsWhat, IsFound};
+ghost use Rattle.dory_wire.specs.StepReply.{Steps};
+ghost use Rattle.dory_domain.specs.Held.{IsHeld, opened, in_state};
+ghost use Rattle.dory_log.specs.Spared.{MayCommit};
 
 use crate::config::FolderConfig;
 use crate::probes::sums;
+use crate::updates::Updates;
 use dory_base::{
-    Change, DocId, Entry, FolderId, Found, Keys, MemberId, NoMemory, Refusal, Shape, SlotTable,
-    UpdateId,
+    Entry, FolderId, Found, Keys, NoMemory, Refusal, Shape, Side, SlotTable, UpdateId,
 };
+use dory_log::{FolderLog, Plan, StagePlan};
 use dory_table::Table;
 use dory_wire::{Want, What};
 use std::alloc::Global;
 use std::marker::Model;
+use std::sync::Arc;
 
-/// A folder's shape, how many versions it retains, and its history.
+/// A folder's shape, how many versions it retains, its log and its history.
 #[derive(Drop)]
 pub struct Folder {
     folder: FolderId,
     shape: Shape,
     retained: u32,
-    history: Vec<Entry>,
+    log: FolderLog,
+    history: Updates,
 }
 
 impl Model for Folder {
+    ghost use Rattle.std.specs.Prelude.{◌≡◌};
+    ghost use Rattle.dory_base.specs.Step.{State, log_of};
     ghost use Rattle.dory_domain.specs.Held.{Held, IsHeld};
 
     ghost Value = { Held };
 
-    ghost view = { λ f. record { number = f.folder.0; shape = f.shape; retained = f.retained; history = f.history.items } };
+    ghost view = { λ f. record {
+      number = f.folder.0;
+      state = record { role = f.log.log.role; shape = f.shape; retained = f.retained; history = f.history; staged = f.log.log.staged };
+    } };
 
-    ghost invariant = { λ f. IsHeld (record { number = f.folder.0; shape = f.shape; retained = f.retained; history = f.history.items }) };
+    ghost invariant = { λ f. let held : Held = record {
+      number = f.folder.0;
+      state = record { role = f.log.log.role; shape = f.shape; retained = f.retained; history = f.history; staged = f.log.log.staged };
+    } in IsHeld held × (f.log.log ≡ log_of held.state) };
 }
 
-/// The update with these parts, which a message can carry.
-fn named(member: u32, serial: u64, doc: u32, change: Change) -> Entry
-    ensures value { result ≡ record { id = record { member = record { 0 = member }; serial = serial }; doc = record { 0 = doc }; change = change } }
-    ensures named { IsNamed result }
+/// Memory ran out.
+fn no_memory() -> What
+    ensures { result ≡ Refused OutOfMemory }
 {
-    Entry {
-        id: UpdateId {
-            member: MemberId(member),
-            serial,
-        },
-        doc: DocId(doc),
-        change,
+    What::Refused {
+        code: Refusal::NoMemory,
     }
 }
 
 impl Folder {
     /// A folder with no update.
-    pub fn new(alloc: Global, config: FolderConfig) -> Folder
+    pub fn new(alloc: Global, role: Side, config: FolderConfig) -> Result<Folder, NoMemory>
         requires some { 1 ≤ config.retained }
         requires few { config.retained ≤ 256 }
-        ensures { result ≡ opened config }
+        ensures { IfOk result (λ f. f ≡ opened role config) }
     {
-        Folder {
+        let _columns = config.shape.columns();
+        let log = FolderLog::new(alloc, role, config.shape)?;
+        Ok(Folder {
             folder: config.folder,
             shape: config.shape,
             retained: config.retained,
-            history: Vec::new(alloc),
-        }
+            log,
+            history: Updates::new(alloc),
+        })
     }
 
     /// Whether it is the folder of this number.
@@ -76,46 +93,39 @@ impl Folder {
 
     /// How many updates it has had.
     pub fn length(&self) -> u32
-        ensures value { result ≡ length self.now.history }
+        ensures value { result ≡ length self.now.state.history }
         ensures held { IsHeld self.now }
     {
-        self.history.len() as u32
+        self.log.length()
     }
 
-    /// Commits one more update. Where memory runs out, the folder stays as it is.
-    pub fn append(&mut self, entry: Entry) -> Result<(), NoMemory>
-        requires { IsNext self.old entry }
-        ensures done { IfOk result (λ _. self.new ≡ with_entry entry self.old) }
-        ensures unchanged { OnErr result (self.new ≡ self.old) }
-    {
-        let Entry { id, doc, change } = entry;
-        self.history
-            .push(named(id.member.0, id.serial, doc.0, change))?;
-        Ok(())
-    }
-
-    /// The answer by this folder's history.
-    pub fn answer(&self, alloc: Global, want: &Want) -> What
+    /// One step at a request: the answer, and what the folder then is. A refusal changes nothing.
+    pub fn step(&mut self, alloc: Global, want: &Want) -> What
         requires { IsWant want.now }
-        ensures value { IsReadAs (read_of self.now.shape self.now.retained self.now.history want.now) result }
+        ensures steps { Steps self.old.state want.now result self.new.state }
+        ensures number { self.new.number ≡ self.old.number }
+        ensures held { IsHeld self.old }
         ensures range { IsWhat result }
     {
+        let length = self.length();
         match want {
-            Want::Latest => What::At {
-                length: self.length(),
-            },
+            Want::Latest => What::At { length },
             Want::Search {
                 version,
                 shape,
                 keys,
             } => self.search(alloc, *version, *shape, keys),
+            Want::Which { number } => self.which(*number),
+            Want::Stage { entry } => self.stage(alloc, entry),
+            Want::Order { id } => self.order(alloc, *id),
+            Want::Follow { number, id } => self.follow(alloc, *number, *id),
         }
     }
 
     /// The answer to a search.
     fn search(&self, alloc: Global, version: u32, asked: Shape, keys: &Keys) -> What
         requires { AreColumns asked keys.now }
-        ensures value { IsReadAs (read_of self.now.shape self.now.retained self.now.history (Want.Search version asked keys.now)) result }
+        ensures value { IsReadAs (search_of self.now.state.shape self.now.state.retained self.now.state.history version asked keys.now) result }
         ensures range { IsWhat result }
     {
         let depth = self.shape.depth();
@@ -132,17 +142,15 @@ impl Folder {
         }
         match self.found(alloc, version, keys) {
             Ok(found) => What::Found { found },
-            Err(NoMemory) => What::Refused {
-                code: Refusal::NoMemory,
-            },
+            Err(NoMemory) => no_memory(),
         }
     }
 
     /// What a version holds, with a sum for each key.
     fn found(&self, alloc: Global, version: u32, keys: &Keys) -> Result<Found, NoMemory>
-        requires version { version ≤ length self.now.history }
-        requires columns { AreColumns self.now.shape keys.now }
-        ensures value { IfOk result (λ f. f ≡ found_of self.now.shape self.now.history version keys.now) }
+        requires version { version ≤ length self.now.state.history }
+        requires columns { AreColumns self.now.state.shape keys.now }
+        ensures value { IfOk result (λ f. f ≡ found_of self.now.state.shape self.now.state.history version keys.now) }
         ensures range { IfOk result IsFound }
     {
         let table = self.version(alloc, version)?;
@@ -157,15 +165,110 @@ impl Folder {
 
     /// The table of a version: what was committed up to it, update by update.
     fn version(&self, alloc: Global, version: u32) -> Result<Table, NoMemory>
-        requires { version ≤ length self.now.history }
-        ensures stands { IfOk result (λ t. StandsFor t (version_of version self.now.history)) }
-        ensures shape { IfOk result (λ t. t.shape ≡ self.now.shape) }
+        requires { version ≤ length self.now.state.history }
+        ensures stands { IfOk result (λ t. StandsFor t (version_of version self.now.state.history)) }
+        ensures shape { IfOk result (λ t. t.shape ≡ self.now.state.shape) }
     {
         let mut table = Table::empty(alloc, self.shape)?;
         for at in 0..version as usize {
-            let entry = self.history[at].copy(alloc)?;
+            let entry = self.history.at(at).copy(alloc)?;
             table.apply(alloc, entry)?;
         }
         Ok(table)
+    }
+
+    /// Which update has a number.
+    fn which(&self, number: u32) -> What
+        requires { IsNumber number }
+        ensures steps { Steps self.now.state (Want.Which number) result self.now.state }
+        ensures range { IsWhat result }
+    {
+        match self.log.which(number) {
+            Ok(id) => What::Id { number, id },
+            Err(code) => What::Refused { code },
+        }
+    }
+
+    /// Stages an update, or finds that it was staged or committed before.
+    fn stage(&mut self, alloc: Global, entry: &Entry) -> What
+        requires { IsEntry entry.now }
+        ensures steps { Steps self.old.state (Want.Stage entry.now) result self.new.state }
+        ensures number { self.new.number ≡ self.old.number }
+        ensures range { IsWhat result }
+    {
+        let id = entry.id;
+        match self.log.look_stage(entry) {
+            Ok(StagePlan::New) => match self.keep(alloc, entry) {
+                Ok(()) => What::Staged { id },
+                Err(NoMemory) => no_memory(),
+            },
+            Ok(StagePlan::Same) => What::Staged { id },
+            Ok(StagePlan::Done { number }) => What::Committed { number, id },
+            Err(code) => What::Refused { code },
+        }
+    }
+
+    /// Keeps a new update until it is ordered.
+    fn keep(&mut self, alloc: Global, entry: &Entry) -> Result<(), NoMemory>
+        requires range { IsEntry entry.now }
+        requires fresh { look_stage (log_of self.old.state) entry.now ≡ Ok New }
+        ensures done { OnOk result (self.new ≡ in_state (after self.old.state (Staged entry.now)) self.old) }
+        ensures unchanged { OnErr result (self.new ≡ self.old) }
+    {
+        let copy = Arc::new(alloc, entry.copy(alloc)?)?;
+        self.log.reserve(alloc)?;
+        self.log.put_staged(copy);
+        Ok(())
+    }
+
+    /// Gives a staged update the next number, or finds the number that it has.
+    fn order(&mut self, alloc: Global, id: UpdateId) -> What
+        requires { IsId id }
+        ensures steps { Steps self.old.state (Want.Order id) result self.new.state }
+        ensures number { self.new.number ≡ self.old.number }
+        ensures range { IsWhat result }
+    {
+        match self.log.look_order(id) {
+            Ok(Plan::Fresh { number }) => match self.append(alloc, number, id) {
+                Ok(()) => What::Committed { number, id },
+                Err(NoMemory) => no_memory(),
+            },
+            Ok(Plan::Again { number }) => What::Committed { number, id },
+            Err(code) => What::Refused { code },
+        }
+    }
+
+    /// Gives a staged update this number, or finds that it has it.
+    fn follow(&mut self, alloc: Global, number: u32, id: UpdateId) -> What
+        requires number { IsNumber number }
+        requires id { IsId id }
+        ensures steps { Steps self.old.state (Want.Follow number id) result self.new.state }
+        ensures number { self.new.number ≡ self.old.number }
+        ensures range { IsWhat result }
+    {
+        match self.log.look_follow(number, id) {
+            Ok(Plan::Fresh { number }) => match self.append(alloc, number, id) {
+                Ok(()) => What::Committed { number, id },
+                Err(NoMemory) => no_memory(),
+            },
+            Ok(Plan::Again { number }) => What::Committed { number, id },
+            Err(code) => What::Refused { code },
+        }
+    }
+
+    /// Moves a staged update to the end of the history.
+    fn append(&mut self, alloc: Global, number: u32, id: UpdateId) -> Result<(), NoMemory>
+        requires fresh { MayCommit (log_of self.old.state) number id }
+        ensures done { OnOk result (self.new ≡ in_state (after self.old.state (Appended id)) self.old) }
+        ensures unchanged { OnErr result (self.new ≡ self.old) }
+    {
+        let Some(staged) = self.log.staged(id) else {
+            return Err(NoMemory);
+        };
+        let update = Arc::try_clone(staged)?;
+        self.log.reserve(alloc)?;
+        self.history.push(update)?;
+        self.log.put_commit(number, id);
+        Ok(())
     }
 }

@@ -1,12 +1,12 @@
 //! The folders of a domain.
-ghost use Rattle.std.specs.Prelude.{◌≡◌, ◌≤◌, map, length, None, IfOk, OnErr, option_map, position};
+ghost use Rattle.std.specs.Prelude.{◌≡◌, map, length, Some, None, IfOk, option_map, position};
 ghost use Rattle.dory_wire.specs.Spelling.{IsWant, IsWhat};
 ghost use Rattle.dory_domain.specs.Config.{config_fault_of};
-ghost use Rattle.dory_domain.specs.Held.{Held, AreHeld, MayFollow, IsServed, opened, is_folder, folder_in, appended};
+ghost use Rattle.dory_domain.specs.Held.{Held, IsHeld, Serves, KeptIfRefused, opened, is_folder, folder_in};
 
 use crate::config::FolderConfig;
 use crate::folder::Folder;
-use dory_base::{Entry, FolderId, NoMemory, Refusal};
+use dory_base::{FolderId, NoMemory, Refusal, Side};
 use dory_wire::{Want, What};
 use std::alloc::Global;
 use std::marker::Model;
@@ -30,13 +30,13 @@ impl Model for Folders {
 
 impl Folders {
     /// Folders with no update.
-    pub fn new(alloc: Global, configs: &[FolderConfig]) -> Result<Folders, NoMemory>
+    pub fn new(alloc: Global, role: Side, configs: &[FolderConfig]) -> Result<Folders, NoMemory>
         requires { config_fault_of configs.now ≡ None }
-        ensures { IfOk result (λ f. f ≡ map opened configs.now) }
+        ensures { IfOk result (λ f. f ≡ map (opened role) configs.now) }
     {
         let mut folders = Vec::new(alloc);
         for config in configs {
-            folders.push(Folder::new(alloc, *config))?;
+            folders.push(Folder::new(alloc, role, *config)?)?;
         }
         Ok(Folders { folders })
     }
@@ -57,7 +57,7 @@ impl Folders {
 
     /// How many updates a folder has had.
     pub fn length(&self, folder: FolderId) -> Option<u32>
-        ensures { result ≡ option_map (λ f. length f.history) (folder_in self.now folder.0) }
+        ensures { result ≡ option_map (λ f. length f.state.history) (folder_in self.now folder.0) }
     {
         match self.find(folder) {
             Some(found) => Some(found.length()),
@@ -65,29 +65,19 @@ impl Folders {
         }
     }
 
-    /// The answer by a folder's history, or that there is no such folder.
-    pub fn answer(&self, alloc: Global, folder: FolderId, want: &Want) -> What
+    /// The step of the folder of this number, or that there is no such folder.
+    pub fn step(&mut self, alloc: Global, folder: FolderId, want: &Want) -> What
         requires { IsWant want.now }
-        ensures value { IsServed (folder_in self.now folder.0) want.now result }
+        ensures serves { Serves self.old folder.0 want.now result self.new }
+        ensures held { (f : Held) → folder_in self.old folder.0 ≡ Some f → IsHeld f }
+        ensures unchanged { KeptIfRefused self.old self.new result }
         ensures range { IsWhat result }
     {
-        match self.find(folder) {
-            Some(found) => found.answer(alloc, want),
+        match self.place(folder) {
+            Some(at) => self.folders[at].step(alloc, want),
             None => What::Refused {
                 code: Refusal::NoFolder,
             },
-        }
-    }
-
-    /// Commits one more update in a folder. Where memory runs out, the folders stay as they are.
-    pub fn append(&mut self, folder: FolderId, entry: Entry) -> Result<(), NoMemory>
-        requires { MayFollow (folder_in self.old folder.0) entry }
-        ensures done { IfOk result (λ _. self.new ≡ appended folder.0 entry self.old) }
-        ensures unchanged { OnErr result (self.new ≡ self.old) }
-    {
-        match self.place(folder) {
-            Some(at) => self.folders[at].append(entry),
-            None => Ok(()),
         }
     }
 }

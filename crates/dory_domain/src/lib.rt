@@ -10,6 +10,7 @@ mod probes;
 mod sums;
 #[cfg(test)]
 mod tests;
+mod updates;
 
 pub use config::{ConfigFault, FolderConfig, OpenFault};
 pub use domain_core::DomainCore;

@@ -1,8 +1,7 @@
 //! A domain by worked examples: sums over two rows, lists of folders, and reads of a short history.
 ghost use Rattle.std.specs.Prelude.{◌≡◌, ◌≤◌, ◌+◌, length, IfOk};
 ghost use Rattle.dory_base.specs.History.{IsChangeOf};
-ghost use Rattle.dory_wire.specs.Spelling.{IsWant, IsRequest};
-ghost use Rattle.dory_domain.specs.Serials.{IsReady};
+ghost use Rattle.dory_wire.specs.Spelling.{IsEntry, IsWant};
 
 use crate::{ConfigFault, DomainCore, FolderConfig, OpenFault, sum};
 use dory_base::{
@@ -26,8 +25,7 @@ fn bits_at(alloc: Global, first: u8, second: u8) -> Result<Bits, NoMemory>
 // A post with two set cells, whose tags all have this byte.
 fn post(alloc: Global, shape: Shape, doc: u32, cells: (u8, u8), byte: u8) -> Result<Entry, NoMemory>
     requires { shape.depth ≡ 8 }
-    ensures change { IfOk result (λ e. IsChangeOf shape e.change) }
-    ensures serial { IfOk result (λ e. e.id.serial ≡ doc) }
+    ensures { IfOk result (λ e. IsChangeOf shape e.change) }
 {
     let row = bits_at(alloc, cells.0, cells.1)?;
     let tags = vec![in alloc; Tag([byte; 16]); 256]?;
@@ -107,29 +105,78 @@ fn a_list_of_folders_is_refused_by_its_first_fault(rt: HostRuntime) -> Result<()
     Ok(())
 }
 
-// Commits a post of this serial in folder 1.
-fn load(alloc: Global, core: &mut DomainCore, shape: Shape, serial: u32) -> Result<(), NoMemory>
-    requires depth { shape.depth ≡ 8 }
-    requires some { 1 ≤ serial }
-    requires few { serial ≤ 1000 }
-    requires ready { IsReady shape serial core.old.folders }
-    ensures { IfOk result (λ _. IsReady shape (serial + 1) core.new.folders) }
+// What a domain answers to a request.
+fn answer(alloc: Global, core: &mut DomainCore, folder: u32, want: Want) -> What
+    requires { IsWant want }
 {
-    let entry = post(alloc, shape, serial, (0, 255), 1)?;
-    core.load(alloc, FolderId(1), entry)
+    let ask = AskId {
+        member: MemberId(0),
+        serial: 1,
+        step: 0,
+    };
+    let request = Request {
+        ask,
+        folder: FolderId(folder),
+        want,
+    };
+    core.step(alloc, &request).what
 }
 
-// A domain whose folder 1 has so many posts.
-fn core_of(alloc: Global, shape: Shape, retained: u8, count: u8) -> Result<DomainCore, NoMemory>
-    requires { shape.depth ≡ 8 }
+// A post of a row with two set cells and zero tags.
+fn plain_post(alloc: Global, shape: Shape, doc: u32) -> Result<Entry, NoMemory>
+    requires shape { shape ≡ record { depth = 8; probes = 2 } }
+    requires some { 1 ≤ doc }
+    ensures { IfOk result IsEntry }
 {
-    let configs = [config(1, shape, retained as u32)];
-    let mut core = match DomainCore::new(alloc, Side::Follow, &configs) {
-        Ok(core) => core,
-        Err(_) => return Err(NoMemory),
-    };
-    for serial in 1..count as u32 + 1 {
-        load(alloc, &mut core, shape, serial)?;
+    let row = bits_at(alloc, 0, 255)?;
+    let tags = vec![in alloc; Tag::zero(); shape.columns()]?;
+    Ok(Entry {
+        id: UpdateId {
+            member: MemberId(0),
+            serial: doc as u64,
+        },
+        doc: DocId(doc),
+        change: Change::Post {
+            shape,
+            row,
+            tags: Tags::of(tags),
+        },
+    })
+}
+
+// Stages and follows an update in folder 1.
+fn commit(alloc: Global, core: &mut DomainCore, number: u32, entry: Entry)
+    requires some { 1 ≤ number }
+    requires few { number ≤ 1000 }
+    requires entry { IsEntry entry }
+{
+    let id = entry.id;
+    answer(alloc, core, 1, Want::Stage { entry });
+    answer(alloc, core, 1, Want::Follow { number, id });
+}
+
+// A domain whose folder 1 has this many versions retained.
+fn empty_core(
+    alloc: Global,
+    role: Side,
+    shape: Shape,
+    retained: u32,
+) -> Result<DomainCore, NoMemory> {
+    let configs = [config(1, shape, retained)];
+    match DomainCore::new(alloc, role, &configs) {
+        Ok(core) => Ok(core),
+        Err(_) => Err(NoMemory),
+    }
+}
+
+// A follower whose folder 1 has so many posts.
+fn core_of(alloc: Global, shape: Shape, retained: u8, count: u8) -> Result<DomainCore, NoMemory>
+    requires { shape ≡ record { depth = 8; probes = 2 } }
+{
+    let mut core = empty_core(alloc, Side::Follow, shape, retained as u32)?;
+    for number in 1..count as u32 + 1 {
+        let entry = plain_post(alloc, shape, number)?;
+        commit(alloc, &mut core, number, entry);
     }
     Ok(core)
 }
@@ -147,21 +194,6 @@ fn search(alloc: Global, version: u8, shape: Shape) -> Result<Want, NoMemory>
         shape,
         keys: Keys::of(columns.as_slice().to_vec(alloc)?),
     })
-}
-
-fn answer(alloc: Global, core: &mut DomainCore, folder: u32, want: Want) -> What
-    requires { IsWant want }
-{
-    let request = Request {
-        ask: AskId {
-            member: MemberId(0),
-            serial: 1,
-            step: 0,
-        },
-        folder: FolderId(folder),
-        want,
-    };
-    core.step(alloc, &request).what
 }
 
 fn is_at(what: &What, want: u32) -> bool {
@@ -232,5 +264,140 @@ fn a_length_is_told_and_another_folder_or_shape_is_refused(
             }
         )
     );
+    Ok(())
+}
+
+// What an answer says: its name, a number and a serial.
+fn said(what: &What) -> (&'static str, u32, u64) {
+    match what {
+        What::At { length } => ("at", *length, 0),
+        What::Found { found } => ("found", found.version, 0),
+        What::Id { number, id } => ("id", *number, id.serial),
+        What::Staged { id } => ("staged", 0, id.serial),
+        What::Committed { number, id } => ("committed", *number, id.serial),
+        What::Refused { code } => refused(code),
+    }
+}
+
+fn refused(code: &Refusal) -> (&'static str, u32, u64) {
+    match code {
+        Refusal::NoFolder => ("nofolder", 0, 0),
+        Refusal::BadMember { member } => ("badmember", member.0, 0),
+        Refusal::Past { last } => ("past", 0, *last),
+        Refusal::Clash { id } => ("clash", 0, id.serial),
+        Refusal::Unfinished { id } => ("unfinished", 0, id.serial),
+        Refusal::Unstaged { id } => ("unstaged", 0, id.serial),
+        Refusal::Taken { number, id } => ("taken", *number, id.serial),
+        Refusal::Gap { length } => ("gap", *length, 0),
+        Refusal::WrongRole { role } => ("wrongrole", (*role == Side::Follow) as u32, 0),
+        Refusal::NoEntry { length } => ("noentry", *length, 0),
+        _ => ("another", 0, 0),
+    }
+}
+
+// A removal of a document by a member.
+fn removal(member: u32, serial: u8, doc: u32) -> Want
+    requires { 1 ≤ serial }
+    ensures { IsWant result }
+{
+    Want::Stage {
+        entry: Entry {
+            id: id_of(member, serial),
+            doc: DocId(doc),
+            change: Change::Remove,
+        },
+    }
+}
+
+fn id_of(member: u32, serial: u8) -> UpdateId
+    ensures { result ≡ record { member = record { 0 = member }; serial = serial } }
+{
+    UpdateId {
+        member: MemberId(member),
+        serial: serial as u64,
+    }
+}
+
+fn order(serial: u8) -> Want
+    requires { 1 ≤ serial }
+    ensures { IsWant result }
+{
+    Want::Order {
+        id: id_of(0, serial),
+    }
+}
+
+fn follow(number: u8, serial: u8) -> Want
+    requires number { 1 ≤ number }
+    requires serial { 1 ≤ serial }
+    ensures { IsWant result }
+{
+    Want::Follow {
+        number: number as u32,
+        id: id_of(0, serial),
+    }
+}
+
+fn which(number: u8) -> Want
+    requires { 1 ≤ number }
+    ensures { IsWant result }
+{
+    Want::Which {
+        number: number as u32,
+    }
+}
+
+#[test]
+fn a_lead_commits_an_id_once_with_the_content_that_came_first(
+    rt: HostRuntime,
+) -> Result<(), NoMemory> {
+    let alloc = rt.alloc();
+    let shape = Shape::new(8, 2).expect(&rt, "a shape in range");
+    let mut lead = empty_core(alloc, Side::Lead, shape, 64)?;
+    let what = answer(alloc, &mut lead, 1, removal(0, 1, 7));
+    assert_eq!(rt; said(&what), ("staged", 0, 1));
+    let what = answer(alloc, &mut lead, 1, removal(0, 1, 8));
+    assert_eq!(rt; said(&what), ("clash", 0, 1));
+    let what = answer(alloc, &mut lead, 1, removal(0, 2, 8));
+    assert_eq!(rt; said(&what), ("unfinished", 0, 1));
+    let what = answer(alloc, &mut lead, 1, order(2));
+    assert_eq!(rt; said(&what), ("unstaged", 0, 2));
+    let what = answer(alloc, &mut lead, 1, order(1));
+    assert_eq!(rt; said(&what), ("committed", 1, 1));
+    let what = answer(alloc, &mut lead, 1, removal(0, 1, 8));
+    assert_eq!(rt; said(&what), ("committed", 1, 1));
+    let what = answer(alloc, &mut lead, 1, removal(64, 1, 8));
+    assert_eq!(rt; said(&what), ("badmember", 64, 0));
+    let what = answer(alloc, &mut lead, 1, follow(1, 1));
+    assert_eq!(rt; said(&what), ("wrongrole", 0, 0));
+    let what = answer(alloc, &mut lead, 2, order(1));
+    assert_eq!(rt; said(&what), ("nofolder", 0, 0));
+    assert_eq!(rt; lead.length(FolderId(1)), Some(1));
+    Ok(())
+}
+
+#[test]
+fn a_follower_takes_each_number_in_its_turn(rt: HostRuntime) -> Result<(), NoMemory> {
+    let alloc = rt.alloc();
+    let shape = Shape::new(8, 2).expect(&rt, "a shape in range");
+    let mut follower = empty_core(alloc, Side::Follow, shape, 64)?;
+    answer(alloc, &mut follower, 1, removal(0, 3, 7));
+    let what = answer(alloc, &mut follower, 1, order(3));
+    assert_eq!(rt; said(&what), ("wrongrole", 1, 0));
+    let what = answer(alloc, &mut follower, 1, follow(2, 3));
+    assert_eq!(rt; said(&what), ("gap", 0, 0));
+    let what = answer(alloc, &mut follower, 1, which(1));
+    assert_eq!(rt; said(&what), ("noentry", 0, 0));
+    let what = answer(alloc, &mut follower, 1, follow(1, 3));
+    assert_eq!(rt; said(&what), ("committed", 1, 3));
+    let what = answer(alloc, &mut follower, 1, follow(1, 4));
+    assert_eq!(rt; said(&what), ("taken", 1, 3));
+    let what = answer(alloc, &mut follower, 1, follow(2, 3));
+    assert_eq!(rt; said(&what), ("taken", 1, 3));
+    let what = answer(alloc, &mut follower, 1, which(1));
+    assert_eq!(rt; said(&what), ("id", 1, 3));
+    let what = answer(alloc, &mut follower, 1, removal(0, 2, 7));
+    assert_eq!(rt; said(&what), ("past", 0, 3));
+    assert_eq!(rt; follower.length(FolderId(1)), Some(1));
     Ok(())
 }

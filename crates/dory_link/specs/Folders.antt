@@ -5,7 +5,7 @@ use Rattle.dory_link.specs.Told.{Told}
 
 -- a folder as it is told
 abbrev pub told_of : Held → Told
-told_of f = record { shape = f.shape; retained = f.retained; history = f.history }
+told_of f = record { shape = f.state.shape; retained = f.state.retained; history = f.state.history }
 
 -- the folders of a domain, by their numbers
 abbrev pub told_folders : List Held → ℕ → Option Told

@@ -5,7 +5,9 @@ use Rattle.dory_base.specs.Dims.{Dims}
 use Rattle.dory_base.specs.declared.entry.Entry.{Entry}
 use Rattle.dory_base.specs.declared.refusal.Refusal.TheVariants.{NoFolder}
 use Rattle.dory_base.specs.History.{IsPrefix}
+use Rattle.dory_base.specs.Step.{State, IsState}
 use Rattle.dory_wire.specs.declared.message.Want.{Want}
+use Rattle.dory_wire.specs.declared.message.Want.TheVariants.{Latest, Search, Which, Stage, Order, Follow}
 use Rattle.dory_wire.specs.declared.message.What.{What}
 use Rattle.dory_wire.specs.declared.message.What.TheVariants.{Refused}
 use Rattle.dory_wire.specs.declared.message.Request.{Request}
@@ -13,7 +15,8 @@ use Rattle.dory_link.specs.declared.exchange.Exchange.{Exchange}
 use Rattle.dory_link.specs.declared.link.LinkError.{LinkError}
 use Rattle.dory_link.specs.declared.link.LinkError.TheVariants as link
 use Rattle.dory_wire.specs.Reading.{request_in, reply_in}
-use Rattle.dory_wire.specs.Read.{read_of, IsReadAs}
+use Rattle.dory_wire.specs.Read.{read_of, IsReadOf}
+use Rattle.dory_wire.specs.StepReply.{Steps}
 
 -- a folder of the peer: its shape, how many versions it keeps, and what is committed
 pub record Told : Type 0 where
@@ -62,17 +65,48 @@ Grows None now = ⊤
 Grows (Some before) None = ⊥
 Grows (Some before) (Some now) = (folder : ℕ) → Grown (before folder) (now folder)
 
--- the reply that a domain with this history may give
+-- the reply that a domain with this history may give to a read
 pub record IsReadAt (before now : Told) (want : Want) (what : What) (history : List Entry) : Type 0 where
   pub later : IsPrefix before.history history
   pub earlier : IsPrefix history now.history
-  pub value : IsReadAs (read_of before.shape before.retained history want) what
+  pub value : IsReadOf (read_of before.shape before.retained history want) what
+
+-- the folder as it is told has this state, but for what is staged
+pub record IsStateOf (told : Told) (s : State) : Type 0 where
+  pub shape : s.shape ≡ told.shape
+  pub retained : s.retained ≡ told.retained
+  pub state : IsState s
+
+-- the reply that a domain may give to any other request: it steps in a state whose history, before and after the step,
+-- lies between those before and after the call
+pub record IsStepAt (before now : Told) (want : Want) (what : What) (s next : State) : Type 0 where
+  pub told : IsStateOf before s
+  pub later : IsPrefix before.history s.history
+  pub steps : Steps s want what next
+  pub earlier : IsPrefix next.history now.history
+
+-- what a folder answers to a read
+abbrev pub Reads : Told → Told → Want → What → Type 0
+Reads before now want what = (history : List Entry) × IsReadAt before now want what history
+
+-- what it answers to any other request
+abbrev pub StepsOnce : Told → Told → Want → What → Type 0
+StepsOnce before now want what = (s : State) × (next : State) × IsStepAt before now want what s next
+
+-- what a folder answers, by the request
+abbrev pub AnswersTo : Told → Told → Want → What → Type 0
+AnswersTo before now Latest what = Reads before now Latest what
+AnswersTo before now (Search number asked keys) what = Reads before now (Search number asked keys) what
+AnswersTo before now (Which number) what = StepsOnce before now (Which number) what
+AnswersTo before now (Stage e) what = StepsOnce before now (Stage e) what
+AnswersTo before now (Order id) what = StepsOnce before now (Order id) what
+AnswersTo before now (Follow number id) what = StepsOnce before now (Follow number id) what
 
 -- what a folder answers: a value at a history between those before and after the call
 abbrev pub IsAnswer : Option Told → Option Told → Want → What → Type 0
 IsAnswer None now want what = what ≡ Refused NoFolder
 IsAnswer (Some before) None want what = ⊥
-IsAnswer (Some before) (Some now) want what = (history : List Entry) × IsReadAt before now want what history
+IsAnswer (Some before) (Some now) want what = AnswersTo before now want what
 
 -- the frame is a reply to the request that was sent
 abbrev pub Answers : Option (ℕ → Option Told) → Option (ℕ → Option Told) → List ℕ → List ℕ → Type 0

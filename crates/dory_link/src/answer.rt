@@ -2,7 +2,7 @@
 ghost use Rattle.std.specs.Prelude.{◌≡◌, Some, None, IfOk, IsErrOf};
 ghost use Rattle.dory_wire.specs.declared.message.Request.{Request as Asked};
 ghost use Rattle.dory_wire.specs.Reading.{request_in};
-ghost use Rattle.dory_link.specs.Told.{Answers};
+ghost use Rattle.dory_link.specs.Told.{Answers, Grows};
 ghost use Rattle.dory_link.specs.Folders.{told_folders};
 
 use dory_domain::DomainCore;
@@ -23,9 +23,9 @@ pub fn answer(
     core: &mut DomainCore,
     request: &[u8],
 ) -> Result<(Vec<u8>, Vec<u8>), AnswerError>
-    ensures unchanged { core.new ≡ core.old }
+    ensures grown { Grows (Some (told_folders core.old.folders)) (Some (told_folders core.new.folders)) }
     ensures copied { IfOk result (λ frames. frames.1.items ≡ frames.0.items) }
-    ensures answers { IfOk result (λ frames. let told = told_folders core.old.folders in Answers (Some told) (Some told) request.now frames.0.items) }
+    ensures answers { IfOk result (λ frames. Answers (Some (told_folders core.old.folders)) (Some (told_folders core.new.folders)) request.now frames.0.items) }
     ensures read { IfOk result (λ _. (asked : Asked) × (request_in request.now ≡ Some asked)) }
     ensures unread { IsErrOf result AnswerError.NoRequest → request_in request.now ≡ None }
 {

@@ -8,7 +8,7 @@ use Rattle.dory_domain.proofs.folder.Folder.found.Goals as goal
 
 pub returns-clause-range : goal.returns-clause-range
 returns-clause-range c =
-    let held : IsHeld c.args.self.now = subst IsHeld c.self.view_is c.self.invariant in
-    let f : ℕ → Sum = λ key. sum_of c.in_ok-table.table.slots (shares_of c.args.self.now.shape key) in
-    found_range c.args.self.now.shape c.args.self.now.history c.args.version c.in_ok-table.table c.in_ok-manifest.manifest c.args.keys.now f c.in_ok-sums.sums
-    held.history held.named c.requires.version c.in_ok-table.ensures.stands c.in_ok-manifest.ensures.kept c.in_ok-table.ensures.shape c.in_ok-manifest.ensures.value c.requires.columns (search rules) c.in_ok-sums.ensures.range
+    let held : IsHeld c.args.self.now = subst IsHeld c.self.view_is c.self.invariant.0 in
+    let f : ℕ → Sum = λ key. sum_of c.in_ok-table.table.slots (shares_of c.args.self.now.state.shape key) in
+    found_range c.args.self.now.state c.args.version c.in_ok-table.table c.in_ok-manifest.manifest c.args.keys.now f c.in_ok-sums.sums
+    held.state held.named c.requires.version c.in_ok-table.ensures.stands c.in_ok-manifest.ensures.kept c.in_ok-table.ensures.shape c.in_ok-manifest.ensures.value c.requires.columns (search rules) c.in_ok-sums.ensures.range

@@ -1,7 +1,7 @@
 use Rattle.std.proofs.Common.{◌<◌, ◌≤◌, length, map, ap, ◌∙◌, sym, subst, arith, take_all}
 use Rattle.dory_domain.specs.declared.config.FolderConfig.{FolderConfig}
 use Rattle.dory_domain.specs.Held.{opened}
-use Rattle.dory_domain.proofs.ConfigLaws.{retained_at, held_opened}
+use Rattle.dory_domain.proofs.ConfigLaws.{retained_at, all_opened}
 use Rattle.dory_domain.proofs.folders.Folders.new.Goals as goal
 
 pub new-requires-clause-some : goal.new-requires-clause-some
@@ -18,5 +18,5 @@ new-requires-clause-few c =
 
 pub invariant_of-result : goal.invariant_of-result
 invariant_of-result c =
-    held_opened c.args.configs.now c.requires c.loop-config.folders.items
-    (c.loop-config.invariant ∙ ap (map opened) (take_all c.loop-config.config-index c.args.configs.now (omega arith)))
+    all_opened c.args.role c.args.configs.now c.requires c.loop-config.folders.items
+    (c.loop-config.invariant ∙ ap (map (opened c.args.role)) (take_all c.loop-config.config-index c.args.configs.now (omega arith)))

@@ -1,0 +1,9 @@
+use Rattle.std.proofs.Common.{ap}
+use Rattle.dory_log.specs.Spared.{Spared}
+use Rattle.dory_domain.proofs.StepHeld.{parts_opened}
+use Rattle.dory_domain.proofs.folder.Folder.new.Goals as goal
+
+pub invariant_of-result : goal.invariant_of-result
+invariant_of-result c =
+    parts_opened c.args.config.folder.0 c.args.config.shape c.args.config.retained c.new-2.result c.in_ok-log.log.log c.args.role c.columns-columns.ensures.range c.requires.some c.requires.few
+    (ap (λ (s : Spared). s.log) c.in_ok-log.ensures) c.new-2.ensures
