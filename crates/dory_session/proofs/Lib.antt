@@ -1,0 +1,4 @@
+pub mod Coming
+pub mod Answers
+pub mod Underway
+pub mod Complete

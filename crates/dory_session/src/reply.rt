@@ -1,0 +1,48 @@
+//! The reply to a message.
+ghost use Rattle.std.specs.Prelude.{◌≡◌, IsErrOf, List, ℕ};
+ghost use Rattle.std.specs.Io.KnownBytes.{Appends};
+ghost use Rattle.dory_io.specs.Causes.{HasCause};
+ghost use Rattle.dory_session.specs.Ends.{Replies, end_of};
+
+use crate::end::How;
+use dory_domain::DomainCore;
+use dory_io::{Sink, write_all};
+use dory_wire::{WireFault, decode_request, encode_reply};
+use std::alloc::Global;
+
+/// The end that a fault of a message is.
+fn fault_end(fault: WireFault) -> How
+    ensures { result ≡ end_of fault }
+{
+    match fault {
+        WireFault::Kind { b } => How::Kind { b },
+        WireFault::Body { at } => How::Body { at },
+        WireFault::Trailing { at } => How::Trailing { at },
+        WireFault::NoMemory => How::NoMemory,
+    }
+}
+
+/// Writes the whole reply to a message. Nothing is written for one that is no request.
+pub fn reply_to<O: Sink>(
+    alloc: Global,
+    core: &mut DomainCore,
+    message: &[u8],
+    out: &mut O,
+) -> Result<(), How>
+    ensures replies { (part : List ℕ) × Appends (O.written out.old) (O.written out.new) part × Replies core.old.folders message.now part core.new.folders result }
+    ensures cause { HasCause (O.faults out.old) (O.faults out.new) (IsErrOf result How.OutputFault) }
+{
+    let request = match decode_request(alloc, message) {
+        Ok(request) => request,
+        Err(fault) => return Err(fault_end(fault)),
+    };
+    let reply = core.step(alloc, &request);
+    let frame = match encode_reply(alloc, &reply) {
+        Ok(frame) => frame,
+        Err(_) => return Err(How::NoMemory),
+    };
+    match write_all(out, &frame) {
+        Ok(()) => Ok(()),
+        Err(_) => Err(How::OutputFault),
+    }
+}
