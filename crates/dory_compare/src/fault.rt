@@ -1,0 +1,68 @@
+//! Why a pair of replies isn't believed.
+
+use dory_base::{AskId, NoMemory, Refusal, Side};
+use std::fmt;
+
+/// The first check that fails, with the values that show it.
+#[derive(Clone, Copy, Debug, PartialEq, Eq)]
+pub enum CheckFault {
+    /// The bytes are no frame of a reply that the ask allows: the first fault, counted in the frame.
+    Form {
+        side: Side,
+        at: usize,
+    },
+    /// The reply is one to another ask.
+    Echo {
+        side: Side,
+        asked: AskId,
+        got: AskId,
+    },
+    Refused {
+        side: Side,
+        code: Refusal,
+    },
+    /// A length or a version is older than what was seen.
+    Stale {
+        side: Side,
+        latest: u32,
+        seen: u32,
+    },
+    /// The first byte of the messages at which the two differ or one has ended.
+    Differ {
+        at: usize,
+    },
+}
+
+#[derive(Clone, Copy, Debug, PartialEq, Eq)]
+pub enum VerifyError {
+    Check(CheckFault),
+    NoMemory,
+}
+
+impl From<NoMemory> for VerifyError {
+    ghost use Rattle.std.specs.Prelude.{◌≡◌};
+    ghost use Rattle.dory_compare.specs.declared.fault.VerifyError.TheVariants as errors;
+
+    ghost from_gives = { λ _ e. e ≡ errors.NoMemory };
+
+    fn from(_error: NoMemory) -> VerifyError {
+        VerifyError::NoMemory
+    }
+}
+
+impl fmt::Display for CheckFault {
+    ghost use Rattle.std.specs.Prelude.{Some};
+    ghost use Rattle.dory_compare.specs.Texts.{check_text};
+
+    ghost output = { λ fault. Some (check_text fault) };
+
+    fn fmt<W: fmt::Write>(&self, f: &mut fmt::Formatter<W>) -> fmt::Result {
+        match self {
+            CheckFault::Form { side, at } => write!(f, "form {side} {at}"),
+            CheckFault::Echo { side, asked, got } => write!(f, "echo {side} {asked} {got}"),
+            CheckFault::Refused { side, code } => write!(f, "refused {side} {code}"),
+            CheckFault::Stale { side, latest, seen } => write!(f, "stale {side} {latest} {seen}"),
+            CheckFault::Differ { at } => write!(f, "differ {at}"),
+        }
+    }
+}
