@@ -1,4 +1,8 @@
-pub mod Alike
-pub mod Listed
-pub mod Both
 pub mod Places
+pub mod TagLaws
+pub mod Shifts
+pub mod TagRuns
+pub mod Going
+pub mod CheckLaws
+pub mod Tagged
+pub mod Beside

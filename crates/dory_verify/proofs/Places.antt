@@ -1,14 +1,15 @@
 -- The place of a fault lies within the message, so it has a place in the frame.
 use Rattle.std.proofs.Common.{◌≡◌, ℕ, zero, suc, ◌+◌, ◌≤◌, Bool, true, false, cond, List, [], ◌∷◌, length, drop, ltb, leb, eqb, Some, None, Option, Result, Ok, Err, refl, subst, ap, ◌∙◌, arith}
 use Rattle.std.specs.Prelude.{nat_lt, ◌&&◌, ◌==◌}
-use Rattle.std.specs.Int.{Width, w16, w32, byte_len}
+use Rattle.dory_base.specs.declared.ids.UpdateId.{UpdateId}
+use Rattle.std.specs.Int.{Width, w16, w32, w64, byte_len}
 use Rattle.dory_wire.specs.declared.fault.WireFault.{WireFault}
 use Rattle.dory_wire.specs.declared.fault.WireFault.TheVariants.{Kind, Body, Trailing, NoMemory}
 use Rattle.std.proofs.lemmas.Bool.{leb-true, eqb-true}
 use Rattle.dory_wire.specs.Frame.{is_length, length_in, message_in}
 use Rattle.dory_wire.proofs.Ranges.{both_true}
 use Rattle.dory_wire.specs.Spelling.{packed_len}
-use Rattle.dory_wire.specs.Reading.{◌>>=◌, Fails, place, field_at, ranged, number_at, tested_at, byte_at, ask_at, id_at, line_at, lines_at, bits_at, sum_at, sums_at, found_at, shape_at, retained_at, code_at, refusal_at, length_at, holding_at, refused_at, what_at, ended, reply_at, reply_of, is_answering, is_count, is_lines, is_few, is_depth, is_probes, is_code, is_slot}
+use Rattle.dory_wire.specs.Reading.{◌>>=◌, Fails, place, field_at, ranged, number_at, tested_at, byte_at, ask_at, id_at, line_at, lines_at, bits_at, sum_at, sums_at, found_at, shape_at, retained_at, member_at, past_at, role_at, named_at, numbered_at, counted_at, later_code_at, code_at, refusal_at, holding_at, refused_at, what_at, ended, reply_at, reply_of, is_answering, is_count, is_lines, is_few, is_depth, is_probes, is_code, is_slot, is_number, is_role}
 
 -- the fault names a place within so many bytes, or none
 abbrev pub IsPlaced : ℕ → WireFault → Type 0
@@ -110,20 +111,67 @@ near_retained total bytes =
     near_then total (tested_at w32 is_count total bytes) _ (near_tested w32 is_count total bytes) (λ oldest.
     near_then total (tested_at w32 is_count total oldest.1) _ (near_tested w32 is_count total oldest.1) (λ newest. tt))
 
+near_named : {A : Type 0} (make : UpdateId → A) (total : ℕ) (bytes : List ℕ) → IsNear total (named_at make total bytes)
+unfolding named_at
+near_named make total bytes = near_then total (id_at total bytes) _ (near_id total bytes) (λ name. tt)
+
+near_numbered : {A : Type 0} (make : ℕ → UpdateId → A) (total : ℕ) (bytes : List ℕ) → IsNear total (numbered_at make total bytes)
+unfolding numbered_at
+near_numbered make total bytes =
+    near_then total (tested_at w32 is_number total bytes) _ (near_tested w32 is_number total bytes) (λ number.
+    near_then total (id_at total number.1) _ (near_id total number.1) (λ name. tt))
+
+near_counted : {A : Type 0} (make : ℕ → A) (total : ℕ) (bytes : List ℕ) → IsNear total (counted_at make total bytes)
+unfolding counted_at
+near_counted make total bytes = near_then total (tested_at w32 is_count total bytes) _ (near_tested w32 is_count total bytes) (λ length. tt)
+
+near_member : (total : ℕ) (bytes : List ℕ) → IsNear total (member_at total bytes)
+unfolding member_at
+near_member total bytes = near_then total (number_at w32 total bytes) _ (near_number w32 total bytes) (λ member. tt)
+
+near_past : (total : ℕ) (bytes : List ℕ) → IsNear total (past_at total bytes)
+unfolding past_at
+near_past total bytes = near_then total (number_at w64 total bytes) _ (near_number w64 total bytes) (λ last. tt)
+
+near_role : (total : ℕ) (bytes : List ℕ) → IsNear total (role_at total bytes)
+unfolding role_at
+near_role total bytes = near_then total (byte_at is_role total bytes) _ (near_byte is_role total bytes) (λ role. tt)
+
+near_later_code : (code total : ℕ) (bytes : List ℕ) → IsNear total (later_code_at code total bytes)
+unfolding later_code_at
+near_later_code code total bytes =
+    near_if total (code == 8) _ _ (near_named _ total bytes)
+    (near_if total (code == 9) _ _ (near_numbered _ total bytes)
+    (near_if total (code == 10) _ _ (near_counted _ total bytes)
+    (near_if total (code == 11) _ _ (near_role total bytes)
+    (near_if total (code == 12) _ _ tt
+    (near_if total (code == 13) _ _ (near_counted _ total bytes) tt)))))
+
 near_code : (code total : ℕ) (bytes : List ℕ) → IsNear total (code_at code total bytes)
 unfolding code_at
-near_code code total bytes = near_if total (code == 1) _ _ tt (near_if total (code == 2) _ _ (near_shape total bytes) (near_if total (code == 3) _ _ (near_retained total bytes) tt))
+near_code code total bytes =
+    near_if total (code == 1) _ _ tt
+    (near_if total (code == 2) _ _ (near_shape total bytes)
+    (near_if total (code == 3) _ _ (near_retained total bytes)
+    (near_if total (code == 4) _ _ (near_member total bytes)
+    (near_if total (code == 5) _ _ (near_past total bytes)
+    (near_if total (code == 6) _ _ (near_named _ total bytes)
+    (near_if total (code == 7) _ _ (near_named _ total bytes)
+    (near_later_code code total bytes)))))))
 
 near_refusal : (total : ℕ) (bytes : List ℕ) → IsNear total (refusal_at total bytes)
 unfolding refusal_at
 near_refusal total bytes = near_then total (byte_at is_code total bytes) _ (near_byte is_code total bytes) (λ code. near_code code.0 total code.1)
 
 near_what : (kind total : ℕ) (bytes : List ℕ) → IsNear total (what_at kind total bytes)
-unfolding what_at length_at holding_at refused_at
+unfolding what_at holding_at refused_at
 near_what kind total bytes =
-    near_if total (kind == 129) _ _ (near_then total (tested_at w32 is_count total bytes) _ (near_tested w32 is_count total bytes) (λ length. tt))
+    near_if total (kind == 129) _ _ (near_counted _ total bytes)
     (near_if total (kind == 130) _ _ (near_then total (found_at total bytes) _ (near_found total bytes) (λ f. tt))
-    (near_then total (refusal_at total bytes) _ (near_refusal total bytes) (λ code. tt)))
+    (near_if total (kind == 131) _ _ (near_numbered _ total bytes)
+    (near_if total (kind == 132) _ _ (near_named _ total bytes)
+    (near_if total (kind == 133) _ _ (near_numbered _ total bytes)
+    (near_then total (refusal_at total bytes) _ (near_refusal total bytes) (λ code. tt))))))
 
 near_ended : {A : Type 0} (x : A) (total : ℕ) (bytes : List ℕ) → IsNear total (ended x total bytes)
 near_ended x total bytes = near_if total (length bytes == 0) (Ok x) (Err (Trailing (place total bytes))) tt (omega arith)

@@ -1,11 +1,15 @@
 -- The checks of a pair of replies, in their order; at each the lead's reply comes before the follower's.
-use Rattle.std.specs.Prelude.{ℕ, ◌≡◌, ◌+◌, ◌==◌, ◌&&◌, drop, Bool, true, false, nat_lt, List, [], ◌∷◌, Option, Some, None, Result, Ok, Err, if◌then◌else◌}
+use Rattle.std.specs.Prelude.{ℕ, ◌≡◌, ◌+◌, ◌==◌, ◌&&◌, length, bit_xor, Bool, true, false, nat_lt, List, [], ◌∷◌, Option, Some, None, Result, Ok, Err, if◌then◌else◌}
 use Rattle.dory_base.specs.declared.ids.Side.{Side}
 use Rattle.dory_base.specs.declared.ids.Side.TheVariants.{Lead, Follow}
 use Rattle.dory_base.specs.declared.ids.AskId.{AskId}
+use Rattle.dory_base.specs.declared.ids.UpdateId.{UpdateId}
+use Rattle.dory_base.specs.declared.found.Place.{Place}
+use Rattle.dory_base.specs.declared.found.Sum.{Sum}
 use Rattle.dory_base.specs.declared.found.Found.{Found}
+use Rattle.dory_hmac.specs.declared.folder_keys.FolderKeys.{FolderKeys}
 use Rattle.dory_wire.specs.declared.message.What.{What}
-use Rattle.dory_wire.specs.declared.message.What.TheVariants.{At, Found as Finds_, Refused}
+use Rattle.dory_wire.specs.declared.message.What.TheVariants.{At, Found as Finds_, Id, Staged, Committed, Refused}
 use Rattle.dory_wire.specs.declared.message.Reply.{Reply}
 use Rattle.dory_wire.specs.declared.fault.WireFault.{WireFault}
 use Rattle.dory_wire.specs.declared.fault.WireFault.TheVariants.{Kind, Body, Trailing, NoMemory}
@@ -16,6 +20,7 @@ use Rattle.dory_verify.specs.declared.fault.CheckFault.{CheckFault}
 use Rattle.dory_verify.specs.declared.fault.CheckFault.TheVariants as fault
 use Rattle.dory_verify.specs.declared.fault.VerifyError.{VerifyError}
 use Rattle.dory_verify.specs.declared.fault.VerifyError.TheVariants as errors
+use Rattle.dory_verify.specs.Tags.{xor_bits, tag_sum}
 use Rattle.dory_verify.specs.Listing.{Lists}
 
 infixl 10 ◌>>=◌
@@ -40,6 +45,9 @@ is_allowed true (At length) = true
 is_allowed false (At length) = false
 is_allowed true (Finds_ f) = false
 is_allowed false (Finds_ f) = true
+is_allowed latest (Id number id) = false
+is_allowed latest (Staged id) = false
+is_allowed latest (Committed number id) = false
 is_allowed latest (Refused code) = true
 
 -- where in the frame a fault of its message is: the length before it has four bytes
@@ -75,28 +83,61 @@ echo side asked reply = if same_ask reply.ask asked then Ok tt else Err (fault.E
 abbrev pub length_of : Side → What → Result ℕ CheckFault
 length_of side (At length) = Ok length
 length_of side (Finds_ f) = Err (fault.Form side 4)
+length_of side (Id number id) = Err (fault.Form side 4)
+length_of side (Staged id) = Err (fault.Form side 4)
+length_of side (Committed number id) = Err (fault.Form side 4)
 length_of side (Refused code) = Err (fault.Refused side code)
 
 -- Refused: a Found isn't refused, and gives what was found
 abbrev pub found_of : Side → What → Result Found CheckFault
 found_of side (At length) = Err (fault.Form side 4)
 found_of side (Finds_ f) = Ok f
+found_of side (Id number id) = Err (fault.Form side 4)
+found_of side (Staged id) = Err (fault.Form side 4)
+found_of side (Committed number id) = Err (fault.Form side 4)
 found_of side (Refused code) = Err (fault.Refused side code)
 
 -- Stale: a length or a version is at least what was seen
 abbrev pub not_stale : Side → ℕ → ℕ → Result (Unit {0}) CheckFault
 not_stale side seen latest = if nat_lt latest seen then Err (fault.Stale side latest seen) else Ok tt
 
--- Differ: from this byte on the two are alike, else the first place where they differ or one has ended
-abbrev pub alike : ℕ → List ℕ → List ℕ → Result (Unit {0}) CheckFault
-alike at [] [] = Ok tt
-alike at [] (y ∷ ys) = Err (fault.Differ at)
-alike at (x ∷ xs) [] = Err (fault.Differ at)
-alike at (x ∷ xs) (y ∷ ys) = if x == y then alike (at + 1) xs ys else Err (fault.Differ at)
+-- Version: what was found names the version asked
+abbrev pub same_version : Side → ℕ → Found → Result (Unit {0}) CheckFault
+same_version side asked f = if f.version == asked then Ok tt else Err (fault.Version side asked f.version)
 
--- the messages of two frames from byte 17 on, which is behind the kind and the ask
-abbrev pub same_bodies : List ℕ → List ℕ → Result (Unit {0}) CheckFault
-same_bodies lead follow = alike 17 (drop 21 lead) (drop 21 follow)
+-- two updates are one
+abbrev pub same_id : UpdateId → UpdateId → Bool
+same_id a b = (a.member.0 == b.member.0) && (a.serial == b.serial)
+
+-- two lines are one: slot, document and id
+abbrev pub same_place : Place → Place → Bool
+same_place a b = (a.slot == b.slot) && (a.doc.0 == b.doc.0) && same_id a.id b.id
+
+-- Manifest: from this line on the two are alike, else the first line where they differ or one has ended
+abbrev pub same_manifest : ℕ → List Place → List Place → Result (Unit {0}) CheckFault
+same_manifest at [] [] = Ok tt
+same_manifest at [] (q ∷ follow) = Err (fault.Manifest at)
+same_manifest at (p ∷ lead) [] = Err (fault.Manifest at)
+same_manifest at (p ∷ lead) (q ∷ follow) = if same_place p q then same_manifest (at + 1) lead follow else Err (fault.Manifest at)
+
+-- Count: there is a sum for each probe
+abbrev pub counted : Side → ℕ → Found → Result (Unit {0}) CheckFault
+counted side want f = if length f.sums == want then Ok tt else Err (fault.Count side (length f.sums) want)
+
+-- TagSum: the XOR of the two tags is that of the cell tags of the XOR of the bits, in the probe's column
+abbrev pub adds_up : FolderKeys → List Place → ℕ → ℕ → Sum → Sum → Result (Unit {0}) CheckFault
+adds_up keys places probe column lead follow =
+    if bit_xor lead.tag follow.tag == tag_sum keys column places (xor_bits lead.bits follow.bits)
+    then Ok tt
+    else Err (fault.TagSum probe (bit_xor lead.tag follow.tag) (tag_sum keys column places (xor_bits lead.bits follow.bits)))
+
+-- from this probe on the tags add up, probe by probe
+abbrev pub all_add_up : FolderKeys → List Place → ℕ → List ℕ → List Sum → List Sum → Result (Unit {0}) CheckFault
+all_add_up keys places probe [] lead follow = Ok tt
+all_add_up keys places probe (c ∷ columns) [] follow = Ok tt
+all_add_up keys places probe (c ∷ columns) (l ∷ lead) [] = Ok tt
+all_add_up keys places probe (c ∷ columns) (l ∷ lead) (f ∷ follow) =
+    adds_up keys places probe c l f >>= (λ u. all_add_up keys places (probe + 1) columns lead follow)
 
 -- the two lengths that replies to Latest give, or the first fault
 unfoldable pub lengths_of : ℕ → AskId → AskId → List ℕ → List ℕ → Result (ℕ × ℕ) CheckFault
@@ -111,20 +152,38 @@ lengths_of seen first second lead follow = do
   b ← not_stale Follow seen other
   Ok (length, other)
 
--- what replies to Search both found at a version, or the first fault
-unfoldable pub first_fault_of : ℕ → ℕ → AskId → AskId → List ℕ → List ℕ → Result Found CheckFault
-first_fault_of version seen first second lead follow = do
+-- what two replies to Search found, or the first fault of Form, Echo and Refused
+unfoldable pub both_found : AskId → AskId → List ℕ → List ℕ → Result (Found × Found) CheckFault
+both_found first second lead follow = do
   l ← form Lead false lead
   f ← form Follow false follow
   e ← echo Lead first l
   g ← echo Follow second f
   found ← found_of Lead l.what
   other ← found_of Follow f.what
-  a ← not_stale Lead seen version
-  b ← same_bodies lead follow
-  Ok found
+  Ok (found, other)
+
+-- what two domains found is of one version, the one that was asked, and has a sum for each probe; or the first fault
+-- of Version, Stale, Manifest and Count
+unfoldable pub of_one_version : ℕ → ℕ → ℕ → Found → Found → Result (Unit {0}) CheckFault
+of_one_version probes version seen lead follow = do
+  a ← same_version Lead version lead
+  b ← same_version Follow version follow
+  c ← not_stale Lead seen version
+  d ← same_manifest 0 lead.manifest follow.manifest
+  e ← counted Lead probes lead
+  counted Follow probes follow
+
+-- what replies to a search at these columns found, or the first fault
+unfoldable pub first_fault_of : FolderKeys → List ℕ → ℕ → ℕ → AskId → AskId → List ℕ → List ℕ → Result (Found × Found) CheckFault
+first_fault_of keys columns version seen first second lead follow = do
+  both ← both_found first second lead follow
+  a ← of_one_version (length columns) version seen both.0 both.1
+  b ← all_add_up keys both.0.manifest 0 columns both.0.sums both.1.sums
+  Ok both
 
 -- unless memory runs out, it is what the checks find: the answer that lists what was found, or the fault
-abbrev pub Compares : ℕ → ℕ → Result Answer VerifyError → Result Found CheckFault → Type 0
-Compares probes version (Ok answer) checked = (f : Found) × (checked ≡ Ok f) × Lists probes version f answer
-Compares probes version (Err e) checked = Misses e checked
+abbrev pub Verifies : FolderKeys → List ℕ → ℕ → Result Answer VerifyError → Result (Found × Found) CheckFault → Type 0
+Verifies keys columns version (Ok answer) checked =
+    (lead follow : Found) × (checked ≡ Ok (lead, follow)) × Lists keys columns version lead follow answer
+Verifies keys columns version (Err e) checked = Misses e checked

@@ -1,33 +1,44 @@
--- What replies list: the documents of the lines whose bits are set at every probe.
-use Rattle.std.specs.Prelude.{ℕ, zero, suc, ◌≡◌, ◌+◌, Bool, false, List, [], ◌∷◌, slice_index_or, if◌then◌else◌}
-use Rattle.std.specs.List.{list_all}
+-- What two replies list together: the documents of the lines whose plain cells are set at every probe.
+use Rattle.std.specs.Prelude.{ℕ, ◌≡◌, ◌+◌, ◌&&◌, Bool, true, false, List, [], ◌∷◌, slice_index_or, if◌then◌else◌}
+use Rattle.dory_base.specs.Xor.{xor}
 use Rattle.dory_base.specs.declared.found.Place.{Place}
 use Rattle.dory_base.specs.declared.found.Sum.{Sum}
 use Rattle.dory_base.specs.declared.found.Found.{Found}
+use Rattle.dory_hmac.specs.declared.folder_keys.FolderKeys.{FolderKeys}
+use Rattle.dory_seal.specs.Seal.{mask_bit_of}
 use Rattle.dory_verify.specs.declared.answer.Answer.{Answer}
 use Rattle.dory_verify.specs.Answer.{IsRising, numbers}
+use Rattle.dory_verify.specs.Tags.{xor_bits}
 
--- the bits of so many probes; a sum that isn't there has none
-abbrev pub bits_by_probe : ℕ → List Sum → List (List Bool)
-bits_by_probe zero sums = []
-bits_by_probe (suc n) [] = [] ∷ bits_by_probe n []
-bits_by_probe (suc n) (s ∷ sums) = s.bits ∷ bits_by_probe n sums
+-- the XOR of the two replies' bits, for each probe
+abbrev pub crossed : List Sum → List Sum → List (List Bool)
+crossed [] follow = []
+crossed (l ∷ lead) [] = []
+crossed (l ∷ lead) (f ∷ follow) = xor_bits l.bits f.bits ∷ crossed lead follow
 
--- each list's bit for this line is set
-abbrev pub set_in_all : ℕ → List (List Bool) → Bool
-set_in_all line bits = list_all (λ probe. slice_index_or probe line false) bits
+-- a line's sealed cell XOR its mask bit
+abbrev pub plain_cell : FolderKeys → Place → ℕ → Bool → Bool
+plain_cell keys p column cell = xor cell (mask_bit_of keys p.doc p.id column)
 
--- the documents of the lines from this one on that are set in all lists
-abbrev pub listed_from : ℕ → List Place → List (List Bool) → List ℕ
-listed_from line [] bits = []
-listed_from line (p ∷ places) bits =
-    if set_in_all line bits then p.doc.0 ∷ listed_from (line + 1) places bits else listed_from (line + 1) places bits
+-- the plain cells of a line are set at every column
+abbrev pub is_listed : FolderKeys → List ℕ → List (List Bool) → ℕ → Place → Bool
+is_listed keys [] bits line p = true
+is_listed keys (c ∷ columns) [] line p = false
+is_listed keys (c ∷ columns) (b ∷ bits) line p = plain_cell keys p c (slice_index_or b line false) && is_listed keys columns bits line p
 
--- the documents that a found lists for so many probes
-abbrev pub listed_in : ℕ → Found → List ℕ
-listed_in probes f = listed_from 0 f.manifest (bits_by_probe probes f.sums)
+-- the documents of the lines from this one on whose plain cells are set
+abbrev pub listed_from : FolderKeys → List ℕ → List (List Bool) → ℕ → List Place → List ℕ
+listed_from keys columns bits line [] = []
+listed_from keys columns bits line (p ∷ places) =
+    if is_listed keys columns bits line p
+    then p.doc.0 ∷ listed_from keys columns bits (line + 1) places
+    else listed_from keys columns bits (line + 1) places
 
--- the answer names this version, and lists what was found, rising
-pub record Lists (probes version : ℕ) (f : Found) (answer : Answer) : Type 0 where
+-- the documents that two replies with one manifest list at these columns
+abbrev pub listed_in : FolderKeys → List ℕ → Found → Found → List ℕ
+listed_in keys columns lead follow = listed_from keys columns (crossed lead.sums follow.sums) 0 lead.manifest
+
+-- the answer names this version, and lists what the two found, rising
+pub record Lists (keys : FolderKeys) (columns : List ℕ) (version : ℕ) (lead follow : Found) (answer : Answer) : Type 0 where
   pub named : answer.version ≡ version
-  pub docs : IsRising (listed_in probes f) (numbers answer.docs)
+  pub docs : IsRising (listed_in keys columns lead follow) (numbers answer.docs)

@@ -1,6 +1,6 @@
 //! Why a pair of replies isn't believed.
 
-use dory_base::{AskId, NoMemory, Refusal, Side};
+use dory_base::{AskId, NoMemory, Refusal, Side, Tag};
 use std::fmt;
 
 /// The first check that fails, with the values that show it.
@@ -21,15 +21,33 @@ pub enum CheckFault {
         side: Side,
         code: Refusal,
     },
+    /// What was found is of another version than the one asked.
+    Version {
+        side: Side,
+        asked: u32,
+        got: u32,
+    },
     /// A length or a version is older than what was seen.
     Stale {
         side: Side,
         latest: u32,
         seen: u32,
     },
-    /// The first byte of the messages at which the two differ or one has ended.
-    Differ {
-        at: usize,
+    /// The first line at which the two manifests differ or one has ended.
+    Manifest {
+        place: usize,
+    },
+    /// There are more or fewer sums than probes.
+    Count {
+        side: Side,
+        got: usize,
+        want: usize,
+    },
+    /// The first probe at which the XOR of the two tags isn't that of the cell tags.
+    TagSum {
+        probe: usize,
+        got: Tag,
+        want: Tag,
     },
 }
 
@@ -61,8 +79,11 @@ impl fmt::Display for CheckFault {
             CheckFault::Form { side, at } => write!(f, "form {side} {at}"),
             CheckFault::Echo { side, asked, got } => write!(f, "echo {side} {asked} {got}"),
             CheckFault::Refused { side, code } => write!(f, "refused {side} {code}"),
+            CheckFault::Version { side, asked, got } => write!(f, "version {side} {asked} {got}"),
             CheckFault::Stale { side, latest, seen } => write!(f, "stale {side} {latest} {seen}"),
-            CheckFault::Differ { at } => write!(f, "differ {at}"),
+            CheckFault::Manifest { place } => write!(f, "manifest {place}"),
+            CheckFault::Count { side, got, want } => write!(f, "count {side} {got} {want}"),
+            CheckFault::TagSum { probe, got, want } => write!(f, "tagsum {probe} {got} {want}"),
         }
     }
 }

@@ -2,16 +2,22 @@
 #![tactic(auto)]
 
 mod answer;
+mod epochs;
 mod fault;
 mod latest;
+mod law;
 mod listing;
 mod pair;
 mod reply;
+mod search;
+mod tags;
 
 pub use answer::Answer;
 pub use fault::{CheckFault, VerifyError};
 pub use latest::check_latest;
-pub use pair::compare;
+pub use law::{right_beside_an_honest_domain, verified};
+pub use search::verify;
+pub use tags::check_tags;
 
 #[cfg(test)]
 mod tests;

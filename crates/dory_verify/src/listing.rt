@@ -1,10 +1,35 @@
 //! The documents that an accepted pair lists.
-ghost use Rattle.std.specs.Prelude.{◌≡◌, ◌≤◌, ◌<◌, false, IfOk, map, slice_index_or};
+ghost use Rattle.std.specs.Prelude.{◌≡◌, ◌<◌, ◌/◌, ◌==◌, ℕ, true, false, length, slice_index, slice_index_or, List, [], IfOk, IsTrue, IsFalse};
+ghost use Rattle.std.specs.List.{AllByRecursion, list_any};
+ghost use Rattle.dory_base.specs.Xor.{xor};
+ghost use Rattle.dory_seal.specs.Epoch.{epoch_of};
 ghost use Rattle.dory_verify.specs.Answer.{IsRising, numbers};
-ghost use Rattle.dory_verify.specs.Listing.{bits_by_probe, set_in_all, listed_in};
+ghost use Rattle.dory_verify.specs.Listing.{crossed, plain_cell, is_listed, listed_from};
+ghost use Rattle.dory_wire.specs.Spelling.{IsSum};
 
-use dory_base::{Bits, DocId, Docs, Found, NoMemory, Sum};
+use crate::epochs::turn_to;
+use dory_base::{Bits, DocId, Docs, NoMemory, Place, Sum};
+use dory_hmac::FolderKeys;
+use dory_seal::EpochKeys;
 use std::alloc::Global;
+
+/// The number of columns whose mask bits come from one HMAC.
+const BLOCK: u16 = 256;
+
+/// The XOR of the bits of two replies, for each probe.
+pub fn crossed(alloc: Global, lead: &[Sum], follow: &[Sum]) -> Result<Vec<Bits>, NoMemory>
+    requires many { length lead.now ≡ length follow.now }
+    requires same { (n : ℕ) × AllByRecursion (IsSum n) lead.now × AllByRecursion (IsSum n) follow.now }
+    ensures { IfOk result (λ bits. bits.items ≡ crossed lead.now follow.now) }
+{
+    let mut all = Vec::new(alloc);
+    for probe in 0..lead.len() {
+        let mut bits = lead[probe].bits.copy(alloc)?;
+        bits.xor_with(&follow[probe].bits);
+        all.push(bits)?;
+    }
+    Ok(all)
+}
 
 /// Whether the bit for a line is set; past the last line it isn't.
 fn is_set(bits: &Bits, line: usize) -> bool
@@ -13,31 +38,80 @@ fn is_set(bits: &Bits, line: usize) -> bool
     line < bits.len() && bits.get(line)
 }
 
-/// Whether the bits for a line are set at every probe.
-fn is_listed(sums: &[Sum], probes: u8, line: usize) -> bool
-    ensures { result ≡ set_in_all line (bits_by_probe probes sums.now) }
+/// One of the two, and not both.
+fn xor(a: bool, b: bool) -> bool
+    ensures { result ≡ xor a b }
 {
-    if sums.len() < probes as usize {
-        return false;
-    }
-    for probe in 0..probes as usize {
-        if !is_set(&sums[probe].bits, line) {
+    if a { !b } else { b }
+}
+
+/// Whether a column before stands in this block.
+fn is_met(columns: &[u16], block: u16) -> bool
+    ensures { result ≡ list_any (λ c. (c / 256) == block) columns.now }
+{
+    columns.iter().any(|column| column / BLOCK == block)
+}
+
+/// Whether the plain cells of a line are set at all columns of a block, whose mask bits are made once.
+fn is_set_in(
+    keys: &EpochKeys,
+    columns: &[u16],
+    bits: &[Bits],
+    line: usize,
+    place: Place,
+    block: u16,
+) -> bool
+    requires epoch { epoch_of place.id ≡ keys.now.epoch }
+    requires many { length bits.now ≡ length columns.now }
+    ensures yes { IsTrue result → (k : ℕ) → k < length columns.now → slice_index columns.now k / 256 ≡ block
+        → plain_cell keys.now.keys place (slice_index columns.now k) (slice_index_or (slice_index_or bits.now k []) line false) ≡ true }
+    ensures no { IsFalse result → (k : ℕ) × (k < length columns.now)
+        × (plain_cell keys.now.keys place (slice_index columns.now k) (slice_index_or (slice_index_or bits.now k []) line false) ≡ false) }
+{
+    let mask = keys.mask_block(place.doc, place.id, block as u32);
+    for probe in 0..columns.len() {
+        let column = columns[probe];
+        if column / BLOCK == block && !xor(is_set(&bits[probe], line), mask.bit(column)) {
             return false;
         }
     }
     true
 }
 
-/// The numbers of the documents whose lines are set at every probe.
-fn listed(alloc: Global, probes: u8, found: &Found) -> Result<Vec<u32>, NoMemory>
-    ensures { IfOk result (λ docs. docs.items ≡ listed_in probes found.now) }
+/// Whether the plain cells of a line are set at every column.
+fn is_listed(keys: &EpochKeys, columns: &[u16], bits: &[Bits], line: usize, place: Place) -> bool
+    requires epoch { epoch_of place.id ≡ keys.now.epoch }
+    requires many { length bits.now ≡ length columns.now }
+    ensures { result ≡ is_listed keys.now.keys columns.now bits.now line place }
 {
-    let lines = found.manifest.items();
-    let sums = found.sums.items();
+    for probe in 0..columns.len() {
+        let block = columns[probe] / BLOCK;
+        if !is_met(&columns[..probe], block)
+            && !is_set_in(keys, columns, bits, line, place, block)
+        {
+            return false;
+        }
+    }
+    true
+}
+
+/// The numbers of the documents whose lines are listed.
+fn listed(
+    alloc: Global,
+    keys: &FolderKeys,
+    columns: &[u16],
+    bits: &[Bits],
+    places: &[Place],
+) -> Result<Vec<u32>, NoMemory>
+    requires { length bits.now ≡ length columns.now }
+    ensures { IfOk result (λ docs. docs.items ≡ listed_from keys.now columns.now bits.now 0 places.now) }
+{
+    let mut recent = EpochKeys::new(keys, 0);
     let mut docs = Vec::new(alloc);
-    for line in 0..lines.len() {
-        let place = lines[line];
-        if is_listed(sums, probes, line) {
+    for line in 0..places.len() {
+        let place = places[line];
+        turn_to(&mut recent, keys, place.id);
+        if is_listed(&recent, columns, bits, line, place) {
             docs.push(place.doc.0)?;
         }
     }
@@ -56,10 +130,17 @@ fn documents(alloc: Global, numbers_of: &[u32]) -> Result<Vec<DocId>, NoMemory>
 }
 
 /// The documents, rising.
-pub fn rising(alloc: Global, probes: u8, found: &Found) -> Result<Docs, NoMemory>
-    ensures { IfOk result (λ docs. IsRising (listed_in probes found.now) (numbers docs)) }
+pub fn rising(
+    alloc: Global,
+    keys: &FolderKeys,
+    columns: &[u16],
+    bits: &[Bits],
+    places: &[Place],
+) -> Result<Docs, NoMemory>
+    requires { length bits.now ≡ length columns.now }
+    ensures { IfOk result (λ docs. IsRising (listed_from keys.now columns.now bits.now 0 places.now) (numbers docs)) }
 {
-    let mut docs = listed(alloc, probes, found)?;
+    let mut docs = listed(alloc, keys, columns, bits, places)?;
     docs.sort_unstable();
     docs.dedup();
     let docs = documents(alloc, &docs)?;

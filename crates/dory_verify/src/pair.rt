@@ -1,89 +1,108 @@
-//! The check of a pair of replies to Search.
-ghost use Rattle.std.specs.Prelude.{◌≡◌, ◌≤◌, ◌∷◌, [], IfOk, drop, length};
-ghost use Rattle.dory_base.specs.declared.ids.AskId.{AskId as AskOf};
-ghost use Rattle.dory_verify.specs.Checks.{Finds, alike, same_bodies, first_fault_of, Compares};
+//! What two replies to a search found, and that it is of one version.
+ghost use Rattle.std.specs.Prelude.{◌≡◌, IfOk};
+ghost use Rattle.dory_wire.specs.Spelling.{IsFound};
+ghost use Rattle.dory_verify.specs.Checks.{Finds, both_found, of_one_version, same_version, same_place, same_manifest, counted};
 
-use crate::answer::Answer;
 use crate::fault::{CheckFault, VerifyError};
-use crate::listing::rising;
 use crate::reply::{echoed, formed, found, fresh};
-use dory_base::{AskId, Found, Side};
+use dory_base::{AskId, Found, Place, Side};
 use std::alloc::Global;
 
-/// That two messages are alike from a byte on; `at` is its place in the message.
-fn is_alike(at: usize, lead: &[u8], follow: &[u8]) -> Result<(), VerifyError>
-    requires { at ≤ 17 }
-    ensures { Finds result (alike at lead.now follow.now) }
-{
-    let shorter = lead.len().min(follow.len());
-    for i in 0..shorter {
-        if lead[i] != follow[i] {
-            return Err(VerifyError::Check(CheckFault::Differ { at: at + i }));
-        }
-    }
-    if lead.len() == follow.len() {
-        Ok(())
-    } else {
-        Err(VerifyError::Check(CheckFault::Differ { at: at + shorter }))
-    }
-}
-
-/// What is behind the first bytes of a frame.
-fn behind(frame: &[u8], skipped: usize) -> &[u8]
-    ensures { result.now ≡ drop skipped frame.now }
-{
-    if skipped <= frame.len() {
-        &frame[skipped..]
-    } else {
-        &[]
-    }
-}
-
-/// That the bodies of two Found are alike.
-fn bodies(lead: &[u8], follow: &[u8]) -> Result<(), VerifyError>
-    ensures { Finds result (same_bodies lead.now follow.now) }
-{
-    is_alike(17, behind(lead, 21), behind(follow, 21))
-}
-
-#[tactic(auto, unfolding(crate::specs::Checks::first_fault_of))]
-fn checked(
+/// What both replies found.
+#[tactic(auto, unfolding(crate::specs::Checks::both_found))]
+pub fn both_found(
     alloc: Global,
-    version: u32,
-    seen: u32,
     first: AskId,
     second: AskId,
     lead: &[u8],
     follow: &[u8],
-) -> Result<Found, VerifyError>
-    ensures { Finds result (first_fault_of version seen first second lead.now follow.now) }
+) -> Result<(Found, Found), VerifyError>
+    ensures exact { Finds result (both_found first second lead.now follow.now) }
+    ensures range { IfOk result (λ both. IsFound both.0 × IsFound both.1) }
 {
     let l = formed(alloc, Side::Lead, false, lead)?;
     let f = formed(alloc, Side::Follow, false, follow)?;
     echoed(Side::Lead, first, &l)?;
     echoed(Side::Follow, second, &f)?;
-    let both = found(Side::Lead, l.what)?;
-    found(Side::Follow, f.what)?;
-    fresh(Side::Lead, seen, version)?;
-    bodies(lead, follow)?;
-    Ok(both)
+    let lead = found(Side::Lead, l.what)?;
+    let follow = found(Side::Follow, f.what)?;
+    Ok((lead, follow))
 }
 
-/// What two whole frames, as received to the asks of the lead and of the follower, answer to a search of so many
-/// probes at a version.
-pub fn compare(
-    alloc: Global,
-    probes: u8,
+/// That the two are of the version asked, which isn't older than what was seen, and have its lines and a sum for each
+/// probe.
+#[tactic(auto, unfolding(crate::specs::Checks::of_one_version))]
+pub fn of_one_version(
+    probes: usize,
     version: u32,
     seen: u32,
-    asks: [AskId; 2],
-    lead: &[u8],
-    follow: &[u8],
-) -> Result<Answer, VerifyError>
-    ensures { (first second : AskOf) → asks ≡ first ∷ second ∷ [] →
-        Compares probes version result (first_fault_of version seen first second lead.now follow.now) }
+    lead: &Found,
+    follow: &Found,
+) -> Result<(), VerifyError>
+    ensures { Finds result (of_one_version probes version seen lead.now follow.now) }
 {
-    let found = checked(alloc, version, seen, asks[0], asks[1], lead, follow)?;
-    let docs = rising(alloc, probes, &found)?;
-    Ok(Answer { version, docs })
+    named(Side::Lead, version, lead)?;
+    named(Side::Follow, version, follow)?;
+    fresh(Side::Lead, seen, version)?;
+    same_lines(lead.manifest.items(), follow.manifest.items())?;
+    counted(Side::Lead, probes, lead)?;
+    let got = follow.sums.items().len();
+    if got == probes {
+        Ok(())
+    } else {
+        Err(VerifyError::Check(CheckFault::Count {
+            side: Side::Follow,
+            got,
+            want: probes,
+        }))
+    }
+}
+
+/// That what was found names the version asked.
+fn named(side: Side, asked: u32, found: &Found) -> Result<(), VerifyError>
+    ensures { Finds result (same_version side asked found.now) }
+{
+    let got = found.version;
+    if got == asked {
+        Ok(())
+    } else {
+        Err(VerifyError::Check(CheckFault::Version { side, asked, got }))
+    }
+}
+
+fn is_same_place(a: &Place, b: &Place) -> bool
+    ensures { result ≡ same_place a.now b.now }
+{
+    a.slot == b.slot
+        && a.doc.0 == b.doc.0
+        && (a.id.member.0 == b.id.member.0 && a.id.serial == b.id.serial)
+}
+
+/// That two manifests are alike.
+fn same_lines(lead: &[Place], follow: &[Place]) -> Result<(), VerifyError>
+    ensures { Finds result (same_manifest 0 lead.now follow.now) }
+{
+    let shorter = lead.len().min(follow.len());
+    for place in 0..shorter {
+        if !is_same_place(&lead[place], &follow[place]) {
+            return Err(VerifyError::Check(CheckFault::Manifest { place }));
+        }
+    }
+    if lead.len() == follow.len() {
+        Ok(())
+    } else {
+        Err(VerifyError::Check(CheckFault::Manifest { place: shorter }))
+    }
+}
+
+/// That there is a sum for each probe.
+fn counted(side: Side, want: usize, found: &Found) -> Result<(), VerifyError>
+    ensures { Finds result (counted side want found.now) }
+{
+    let got = found.sums.items().len();
+    if got == want {
+        Ok(())
+    } else {
+        Err(VerifyError::Check(CheckFault::Count { side, got, want }))
+    }
 }

@@ -15,6 +15,9 @@ fn allows(latest: bool, what: &What) -> bool
     match what {
         What::At { .. } => latest,
         What::Found { .. } => !latest,
+        What::Id { .. } => false,
+        What::Staged { .. } => false,
+        What::Committed { .. } => false,
         What::Refused { .. } => true,
     }
 }
@@ -75,22 +78,24 @@ pub fn length(side: Side, what: &What) -> Result<u32, VerifyError>
 {
     match what {
         What::At { length } => Ok(*length),
-        What::Found { .. } => Err(VerifyError::Check(CheckFault::Form { side, at: 4 })),
         What::Refused { code } => Err(VerifyError::Check(CheckFault::Refused {
             side,
             code: *code,
         })),
+        _ => Err(VerifyError::Check(CheckFault::Form { side, at: 4 })),
     }
 }
 
 /// What a reply to Search found.
 pub fn found(side: Side, what: What) -> Result<Found, VerifyError>
-    ensures { Finds result (found_of side what) }
+    requires { IsWhat what }
+    ensures exact { Finds result (found_of side what) }
+    ensures range { IfOk result (λ f. IsFound f) }
 {
     match what {
-        What::At { .. } => Err(VerifyError::Check(CheckFault::Form { side, at: 4 })),
         What::Found { found } => Ok(found),
         What::Refused { code } => Err(VerifyError::Check(CheckFault::Refused { side, code })),
+        _ => Err(VerifyError::Check(CheckFault::Form { side, at: 4 })),
     }
 }
 

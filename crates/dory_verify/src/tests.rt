@@ -2,20 +2,25 @@
 ghost use Rattle.std.specs.Prelude.{◌≤◌};
 
 use super::*;
-use dory_base::{AskId, MemberId, Refusal, Side};
+use dory_base::{AskId, Change, DocId, Entry, MemberId, Refusal, Shape, Side, Tag, UpdateId, Word};
+use dory_bloom::plain_row;
+use dory_dpf::{Key, eval_at};
+use dory_hmac::FolderKeys;
+use dory_query::Query;
+use dory_seal::{cell_tag, seal_post};
 use dory_wire::{Reply, What, encode_reply};
+use std::alloc::Global;
 use std::test::*;
 
-// Document 7 in slot 4095 at version 6, with its bit set at both probes, as an answer to the ask 0.2.0.
-const FOUND: [u8; 80] = [
-    0, 0, 0, 76, 0x82, 0, 0, 0, 0, 0, 0, 0, 0, 0, 0, 0, 2, 0, 0, 0, 0, // to the ask
-    0, 0, 0, 6, 0, 1, // the version, and the count of lines
-    0x0f, 0xff, 0, 0, 0, 7, 0, 0, 0, 1, 1, 2, 3, 4, 5, 6, 7, 8, // the line
+// The lines of documents 7 and 8 at version 2, as an answer to the ask 0.2.0, with empty sums of two probes.
+const FOUND: [u8; 98] = [
+    0, 0, 0, 94, 0x82, 0, 0, 0, 0, 0, 0, 0, 0, 0, 0, 0, 2, 0, 0, 0, 0, // to the ask
+    0, 0, 0, 2, 0, 2, // the version, and the count of lines
+    0, 0, 0, 0, 0, 7, 0, 0, 0, 0, 0, 0, 0, 0, 0, 0, 0, 1, // the first line
+    0, 1, 0, 0, 0, 8, 0, 0, 0, 0, 0, 0, 0, 0, 0, 0, 0, 2, // the second line
     2, // the count of sums
-    1, // the bits of probe 0, and its tag
-    0xaa, 0xaa, 0xaa, 0xaa, 0xaa, 0xaa, 0xaa, 0xaa, 0xaa, 0xaa, 0xaa, 0xaa, 0xaa, 0xaa, 0xaa, 0xaa,
-    1, // the bits of probe 1, and its tag
-    0xbb, 0xbb, 0xbb, 0xbb, 0xbb, 0xbb, 0xbb, 0xbb, 0xbb, 0xbb, 0xbb, 0xbb, 0xbb, 0xbb, 0xbb, 0xbb,
+    0, 0, 0, 0, 0, 0, 0, 0, 0, 0, 0, 0, 0, 0, 0, 0, 0, // the bits of probe 0, and its tag
+    0, 0, 0, 0, 0, 0, 0, 0, 0, 0, 0, 0, 0, 0, 0, 0, 0, // the bits of probe 1, and its tag
 ];
 
 fn ask(step: u32) -> AskId {
@@ -23,6 +28,13 @@ fn ask(step: u32) -> AskId {
         member: MemberId(0),
         serial: 2,
         step,
+    }
+}
+
+fn update(serial: u64) -> UpdateId {
+    UpdateId {
+        member: MemberId(0),
+        serial,
     }
 }
 
@@ -78,86 +90,228 @@ fn two_lengths_are_given_or_the_first_fault_is(rt: HostRuntime) -> Result<(), Fa
     Ok(())
 }
 
+/// A folder with two sealed rows, and a search for the word of the first, with what both domains answer honestly.
+#[derive(Drop)]
+struct Setting {
+    keys: FolderKeys,
+    query: Query,
+    lead: [u8; 98],
+    follow: [u8; 98],
+}
+
+/// What a domain adds up of one entry: the parity of its selected cells, and the XOR of their tags.
+#[derive(Drop)]
+struct Added {
+    parity: u8,
+    tag: Tag,
+}
+
+fn sealed(
+    alloc: Global,
+    keys: &FolderKeys,
+    shape: Shape,
+    serial: u64,
+    doc: u32,
+    word: &[u8],
+) -> Result<Entry, Fail> {
+    let words = [Word::read(word)?];
+    let row = plain_row(alloc, keys, shape, &words).ok().ok_or("a row")?;
+    if row.len() == shape.columns() {
+        let entry = seal_post(alloc, keys, shape, update(serial), DocId(doc), &row);
+        Ok(entry.ok().ok_or("an entry")?)
+    } else {
+        Err("the row".into())
+    }
+}
+
+fn sum_up(key: &Key, entry: &Entry) -> Added {
+    let mut parity = 0;
+    let mut sum = Tag::zero();
+    if let Change::Post { row, tags, .. } = &entry.change {
+        for column in 0..256u16 {
+            if eval_at(key, column) {
+                let place = column as usize;
+                if place < row.len() && row.get(place) {
+                    parity ^= 1;
+                }
+                if let Some(tag) = tags.items().get(place) {
+                    sum = sum.xor(tag);
+                }
+            }
+        }
+    }
+    Added { parity, tag: sum }
+}
+
+/// The frame of what a domain found under two keys.
+fn found(step: u8, keys: &[Key], first: &Entry, second: &Entry) -> Result<[u8; 98], Fail> {
+    let one = keys.first().ok_or("a key")?;
+    let two = keys.get(1).ok_or("a key")?;
+    let mut bytes = FOUND;
+    bytes[20] = step;
+    let (a, b) = (sum_up(one, first), sum_up(one, second));
+    bytes[64] = a.parity | b.parity << 1;
+    bytes[65..81].copy_from_slice(&a.tag.xor(&b.tag).bytes());
+    let (a, b) = (sum_up(two, first), sum_up(two, second));
+    bytes[81] = a.parity | b.parity << 1;
+    bytes[82..].copy_from_slice(&a.tag.xor(&b.tag).bytes());
+    Ok(bytes)
+}
+
+fn prepared(alloc: Global) -> Result<Setting, Fail> {
+    let keys = FolderKeys::derive(&[7; 32], 1);
+    let shape = Shape::new(8, 2).ok_or("shape")?;
+    let first = sealed(alloc, &keys, shape, 1, 7, b"alpha")?;
+    let second = sealed(alloc, &keys, shape, 2, 8, b"beta")?;
+    let word = Word::read(b"alpha")?;
+    let asks = [ask(0), ask(1)];
+    let query = Query::make(alloc, &keys, shape, &word, 2, asks, &[5; 32]);
+    let query = query.ok().ok_or("a query")?;
+    let lead = found(0, query.lead_keys.items(), &first, &second)?;
+    let follow = found(1, query.follow_keys.items(), &first, &second)?;
+    Ok(Setting {
+        keys,
+        query,
+        lead,
+        follow,
+    })
+}
+
 #[test]
-fn a_document_whose_bits_are_all_set_is_listed(rt: HostRuntime) -> Result<(), Fail> {
-    let alloc = rt.alloc();
-    let asks = [ask(0), ask(0)];
-    let answer = compare(alloc, 2, 6, 6, asks, &FOUND, &FOUND)
+fn two_honest_replies_list_the_documents_of_the_word(rt: HostRuntime) -> Result<(), Fail> {
+    let s = prepared(rt.alloc())?;
+    let answer = verify(rt.alloc(), &s.keys, &s.query, 2, &s.lead, &s.follow)
         .ok()
         .ok_or("an answer")?;
-    assert_eq!(rt; answer.version, 6);
+    assert_eq!(rt; answer.version, 2);
     assert_eq!(rt; answer.docs.items().len(), 1);
     assert_eq!(rt; answer.docs.items().first().map(|doc| doc.0), Some(7));
-    // A third probe has no bits.
-    let answer = compare(alloc, 3, 6, 6, asks, &FOUND, &FOUND)
+    Ok(())
+}
+
+/// The tag of probe 0 in a frame.
+fn tag_in(frame: &[u8; 98]) -> Tag {
+    let mut bytes = [0; 16];
+    bytes.copy_from_slice(&frame[65..81]);
+    Tag::of(bytes)
+}
+
+/// A frame whose tag of probe 0 is XORed with another.
+fn shifted(frame: &[u8; 98], shift: &Tag) -> [u8; 98] {
+    let mut bytes = *frame;
+    let shift = shift.bytes();
+    for i in 0..16 {
+        bytes[65 + i] ^= shift[i];
+    }
+    bytes
+}
+
+#[test]
+fn a_flipped_bit_is_seen_unless_the_tag_is_shifted_by_both_cell_tags(
+    rt: HostRuntime,
+) -> Result<(), Fail> {
+    let s = prepared(rt.alloc())?;
+    let mut follow = s.follow;
+    follow[64] ^= 1;
+    let doc = DocId(7);
+    let both = cell_tag(&s.keys, doc, update(1), 2, false).xor(&cell_tag(
+        &s.keys,
+        doc,
+        update(1),
+        2,
+        true,
+    ));
+    let got = tag_in(&s.lead).xor(&tag_in(&s.follow));
+    assert_eq!(rt;
+        verify(rt.alloc(), &s.keys, &s.query, 2, &s.lead, &follow).err(),
+        Some(VerifyError::Check(CheckFault::TagSum {
+            probe: 0,
+            got,
+            want: got.xor(&both),
+        }))
+    );
+    // The forgery: nothing shows that document 7 was left out.
+    let follow = shifted(&follow, &both);
+    let answer = verify(rt.alloc(), &s.keys, &s.query, 2, &s.lead, &follow)
         .ok()
         .ok_or("an answer")?;
     assert_eq!(rt; answer.docs.items().len(), 0);
     Ok(())
 }
 
-#[test]
-fn the_first_fault_of_a_search_is_named(rt: HostRuntime) -> Result<(), Fail> {
-    let alloc = rt.alloc();
-    let asks = [ask(0), ask(0)];
-    let one = at(rt, 0, 1)?;
-    assert_eq!(rt;
-        compare(alloc, 2, 6, 0, asks, &FOUND, &one).err(),
-        Some(VerifyError::Check(CheckFault::Form {
-            side: Side::Follow,
-            at: 4
-        }))
-    );
-    assert_eq!(rt;
-        compare(alloc, 2, 6, 7, asks, &FOUND, &FOUND).err(),
-        Some(VerifyError::Check(CheckFault::Stale {
-            side: Side::Lead,
-            latest: 6,
-            seen: 7,
-        }))
-    );
-    let mut nine = FOUND;
-    nine[45] = 9;
-    assert_eq!(rt;
-        compare(alloc, 2, 6, 0, asks, &nine, &FOUND).err(),
-        Some(VerifyError::Check(CheckFault::Form {
-            side: Side::Lead,
-            at: 45
-        }))
-    );
-    let refused = Reply {
-        ask: ask(0),
-        what: What::Refused {
-            code: Refusal::Unretained {
-                oldest: 4,
-                newest: 5,
-            },
-        },
-    };
-    let refused = encode_reply(alloc, &refused).ok().ok_or("a frame")?;
-    assert_eq!(rt;
-        compare(alloc, 2, 6, 0, asks, &FOUND, &refused).err(),
-        Some(VerifyError::Check(CheckFault::Refused {
-            side: Side::Follow,
-            code: Refusal::Unretained {
-                oldest: 4,
-                newest: 5
-            },
-        }))
-    );
-    Ok(())
+/// A frame without its second sum.
+fn front(frame: &[u8; 98]) -> &[u8] {
+    &frame[..81]
 }
 
 #[test]
-fn the_first_byte_that_differs_is_named(rt: HostRuntime) -> Result<(), Fail> {
-    for (place, at) in [(24, 20), (32, 28), (50, 46), (79, 75)] {
-        let mut other = FOUND;
-        other[place] ^= 1;
+fn the_first_fault_of_a_search_is_named(rt: HostRuntime) -> Result<(), Fail> {
+    let s = prepared(rt.alloc())?;
+    // a byte of the follower's frame, what it becomes, what was seen, and the fault
+    let rows = [
+        (
+            20usize,
+            0u8,
+            0u32,
+            CheckFault::Echo {
+                side: Side::Follow,
+                asked: ask(1),
+                got: ask(0),
+            },
+        ),
+        (
+            24,
+            3,
+            3,
+            CheckFault::Version {
+                side: Side::Follow,
+                asked: 2,
+                got: 3,
+            },
+        ),
+        (
+            44,
+            3,
+            3,
+            CheckFault::Stale {
+                side: Side::Lead,
+                latest: 2,
+                seen: 3,
+            },
+        ),
+        (44, 3, 0, CheckFault::Manifest { place: 0 }),
+        (50, 9, 0, CheckFault::Manifest { place: 1 }),
+        (
+            64,
+            4,
+            0,
+            CheckFault::Form {
+                side: Side::Follow,
+                at: 64,
+            },
+        ),
+    ];
+    for (place, byte, seen, fault) in rows {
+        let mut follow = s.follow;
+        if place < follow.len() {
+            follow[place] = byte;
+        }
         assert_eq!(rt;
-            compare(rt.alloc(), 2, 6, 0, [ask(0), ask(0)], &FOUND, &other).err(),
-            Some(VerifyError::Check(CheckFault::Differ { at }))
+            verify(rt.alloc(), &s.keys, &s.query, seen, &s.lead, &follow).err(),
+            Some(VerifyError::Check(fault))
         );
     }
+    let mut short = s.follow;
+    short[3] = 77;
+    short[63] = 1;
+    assert_eq!(rt;
+        verify(rt.alloc(), &s.keys, &s.query, 0, &s.lead, front(&short)).err(),
+        Some(VerifyError::Check(CheckFault::Count {
+            side: Side::Follow,
+            got: 1,
+            want: 2,
+        }))
+    );
     Ok(())
 }
 
@@ -190,6 +344,14 @@ fn each_fault_has_its_text(rt: HostRuntime) -> Result<(), Fail> {
             "refused lead unretained 4 5",
         ),
         (
+            CheckFault::Version {
+                side: Side::Follow,
+                asked: 1,
+                got: 2,
+            },
+            "version follow 1 2",
+        ),
+        (
             CheckFault::Stale {
                 side: Side::Follow,
                 latest: 0,
@@ -197,7 +359,23 @@ fn each_fault_has_its_text(rt: HostRuntime) -> Result<(), Fail> {
             },
             "stale follow 0 1",
         ),
-        (CheckFault::Differ { at: 42 }, "differ 42"),
+        (CheckFault::Manifest { place: 0 }, "manifest 0"),
+        (
+            CheckFault::Count {
+                side: Side::Follow,
+                got: 1,
+                want: 2,
+            },
+            "count follow 1 2",
+        ),
+        (
+            CheckFault::TagSum {
+                probe: 0,
+                got: Tag([0xa9; 16]),
+                want: Tag::zero(),
+            },
+            "tagsum 0 a9a9a9a9a9a9a9a9a9a9a9a9a9a9a9a9 00000000000000000000000000000000",
+        ),
     ];
     for (fault, text) in texts {
         let printed = format!(in rt.alloc(); "{fault}")?;

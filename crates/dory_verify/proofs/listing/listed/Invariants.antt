@@ -1,6 +1,6 @@
 use Rattle.std.proofs.Common.{◌≡◌, ◌++◌, drop}
-use Rattle.dory_verify.specs.Listing.{bits_by_probe, listed_from}
+use Rattle.dory_verify.specs.Listing.{listed_from}
 use Rattle.dory_verify.proofs.listing.listed.Given as goal
 
 abbrev pub invariant-loop-line : goal.invariant-loop-line
-invariant-loop-line l = l.docs.items ++ listed_from l.line (drop l.line l.lines) (bits_by_probe l.probes l.sums) ≡ listed_from 0 l.lines (bits_by_probe l.probes l.sums)
+invariant-loop-line l = (l.recent.keys ≡ l.keys) × (l.docs.items ++ listed_from l.keys l.columns l.bits l.line (drop l.line l.places) ≡ listed_from l.keys l.columns l.bits 0 l.places)

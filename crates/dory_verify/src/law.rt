@@ -1,0 +1,39 @@
+//! The law of verification, for any selectors that are point pairs.
+ghost use Rattle.std.specs.Prelude.{◌≡◌, ◌⊎◌, ℕ, List, Bool, Ok, map};
+ghost use Rattle.std.specs.List.{AllZip, AllByRecursion};
+ghost use Rattle.dory_base.specs.declared.found.Place.{Place};
+ghost use Rattle.dory_base.specs.declared.found.Sum.{Sum};
+ghost use Rattle.dory_base.specs.Dims.{Dims};
+ghost use Rattle.dory_base.specs.declared.entry.Entry.{Entry};
+ghost use Rattle.dory_base.specs.declared.found.Found.{Found};
+ghost use Rattle.dory_base.specs.declared.ids.AskId.{AskId};
+ghost use Rattle.dory_base.specs.Table.{Slots, live_of};
+ghost use Rattle.dory_hmac.specs.declared.folder_keys.FolderKeys.{FolderKeys};
+ghost use Rattle.dory_wire.proofs.Fields.{IsBytes};
+ghost use Rattle.dory_verify.specs.declared.answer.Answer.{Answer};
+ghost use Rattle.dory_verify.specs.Answer.{IsAnswer};
+ghost use Rattle.dory_verify.specs.Checks.{first_fault_of};
+ghost use Rattle.dory_verify.specs.Forgery.{IsForgery};
+ghost use Rattle.dory_verify.specs.Honest.{IsFoundIn, found_by, IsSearch};
+ghost use Rattle.dory_verify.specs.Listing.{Lists};
+ghost use Rattle.dory_verify.specs.Forgery.{IsForgeryOf};
+ghost use Rattle.dory_verify.specs.SideBySide.{Both, other_of, IsTagged, IsAsked, IsChecked, IsShown};
+
+/// Beside an honest domain, sums whose tags add up at every probe show the cells, or are the forgery.
+pub fn verified()
+    ensures { (tag : ℕ → Place → Bool → ℕ) (m : ℕ) (slots : Slots) (bs : List Both) (sums : List Sum) → AllByRecursion (IsTagged tag m) (live_of slots) → AllByRecursion (IsAsked m) bs → AllZip (IsChecked tag slots) bs sums
+        → IsForgeryOf tag slots (map other_of bs) sums ⊎ AllZip (IsShown slots) bs sums }
+{}
+
+/// Where one of two replies is an honest domain's to a search of sealed entries, a pair without a fault is answered
+/// right, or the other reply is the forgery.
+pub fn right_beside_an_honest_domain()
+    ensures lead { (keys : FolderKeys) (shape : Dims) (history : List Entry) (version seen : ℕ) (first second : AskId) (word columns : List ℕ) (mine other : List (List Bool)) (lead follow : List ℕ) (l f : Found) (answer : Answer)
+        → IsSearch keys shape history version word columns mine other → IsBytes lead → IsBytes follow → IsFoundIn lead (found_by history version mine)
+        → first_fault_of keys columns version seen first second lead follow ≡ Ok (l, f) → Lists keys columns version l f answer
+        → IsAnswer keys shape history version word answer.docs ⊎ IsForgery keys history version columns other f.sums }
+    ensures follow { (keys : FolderKeys) (shape : Dims) (history : List Entry) (version seen : ℕ) (first second : AskId) (word columns : List ℕ) (other mine : List (List Bool)) (lead follow : List ℕ) (l f : Found) (answer : Answer)
+        → IsSearch keys shape history version word columns other mine → IsBytes lead → IsBytes follow → IsFoundIn follow (found_by history version mine)
+        → first_fault_of keys columns version seen first second lead follow ≡ Ok (l, f) → Lists keys columns version l f answer
+        → IsAnswer keys shape history version word answer.docs ⊎ IsForgery keys history version columns other l.sums }
+{}
