@@ -1,7 +1,7 @@
 -- Over two links that tell the folder, with histories that agree, a failed check is a refusal.
 use Rattle.std.proofs.Common.{◌≡◌, ℕ, ◌≤◌, ◌^◌, ◌&&◌, Bool, true, false, cond, List, length, map, Option, Some, None, Result, Ok, Err, ap, refl, inl, inr, sym, ◌∙◌, subst, arith}
 use Rattle.std.specs.Prelude.{nat_le, nat_lt, ⊤}
-use Rattle.dory_base.specs.Dims.{Dims}
+use Rattle.dory_base.specs.Dims.{Dims, same_shape}
 use Rattle.dory_base.specs.declared.entry.Entry.{Entry}
 use Rattle.dory_base.specs.declared.found.Found.{Found}
 use Rattle.dory_base.specs.declared.ids.AskId.{AskId}
@@ -12,16 +12,16 @@ use Rattle.dory_base.specs.History.{IsPrefix, version_of}
 use Rattle.dory_base.specs.Table.{table_of, manifest_of}
 use Rattle.dory_base.specs.Sum.{sum_of}
 use Rattle.dory_wire.specs.declared.message.What.{What}
-use Rattle.dory_wire.specs.declared.message.What.TheVariants.{At, Found as Finds, Refused}
-use Rattle.dory_wire.specs.declared.message.Want.TheVariants.{Latest, Search}
+use Rattle.dory_wire.specs.declared.message.What.TheVariants.{At, Found as Finds, Id, Staged, Committed, Refused}
+use Rattle.dory_wire.specs.declared.message.Want.TheVariants.{Latest}
 use Rattle.std.proofs.lemmas.Bool.Decides.{nat_tests}
 use Rattle.dory_wire.specs.Reading.{reply_in}
-use Rattle.dory_wire.specs.Read.{read_of, IsReadAs, same_shape, oldest_of, only_bit, found_of}
+use Rattle.dory_wire.specs.Read.{search_of, IsReadAs, oldest_of, only_bit, found_of}
 use Rattle.dory_wire.proofs.Fields.{IsBytes}
 use Rattle.dory_link.specs.Told.{Told, Heard}
-use Rattle.dory_verify.specs.declared.fault.CheckFault.{CheckFault}
-use Rattle.dory_verify.specs.declared.fault.CheckFault.TheVariants as fault
-use Rattle.dory_verify.specs.Checks.{first_fault_of}
+use Rattle.dory_compare.specs.declared.fault.CheckFault.{CheckFault}
+use Rattle.dory_compare.specs.declared.fault.CheckFault.TheVariants as fault
+use Rattle.dory_compare.specs.Checks.{first_fault_of}
 use Rattle.dory_client.specs.declared.state.KeptState.{KeptState}
 use Rattle.dory_client.specs.declared.end.ClientEnd.{ClientEnd}
 use Rattle.dory_client.specs.declared.end.ClientEnd.TheVariants as ends
@@ -61,7 +61,7 @@ same_found s t a b number keys d v =
 length_told : (lead lead' : Heard) (state : KeptState) (step : ℕ) (frame : List ℕ) (x y : Told) → TellsFolder lead.folders state.folder.0 x → TellsFolder lead'.folders state.folder.0 y → state.seen ≤ length x.history → Ask lead lead' (asked_of state step Latest) frame
     → (n : ℕ) × (reply_in frame ≡ Some (reply (ask_of state step) (At n))) × (state.seen ≤ n)
 length_told lead lead' state step frame x y told told' seen ask =
-    let r = replied_by lead.folders lead'.folders x y (asked_of state step Latest) frame told told' ask.replies in
+    let r = replied_by lead.folders lead'.folders x y (asked_of state step Latest) frame tt told told' ask.replies in
     let what_is : r.what ≡ At (length r.history) = r.at.value in (
       length r.history,
       r.replied ∙ ap (λ (w : What). Some (reply (ask_of state step) w)) what_is,
@@ -82,6 +82,9 @@ lengths_told lead lead' follow follow' state gave x y x' y' t u t' u' l l' p =
 abbrev IsSearched : Dims → Dims → List Entry → ℕ → List ℕ → What → Type 0
 IsSearched asked shape history number keys (At n) = ⊥
 IsSearched asked shape history number keys (Finds f) = (asked.depth ≡ shape.depth) × (number ≤ length history) × (f ≡ found_of shape history number keys)
+IsSearched asked shape history number keys (Id m name) = ⊥
+IsSearched asked shape history number keys (Staged name) = ⊥
+IsSearched asked shape history number keys (Committed m name) = ⊥
 IsSearched asked shape history number keys (Refused code) = ⊤
 
 same_depth : (s t : Dims) → same_shape s t ≡ true → s.depth ≡ t.depth
@@ -93,7 +96,7 @@ in_range a b c h = grind (arith, nat_tests)
 refused : (asked shape : Dims) (history : List Entry) (number : ℕ) (keys : List ℕ) (w : What) (code : Refusal) → w ≡ Refused code → IsSearched asked shape history number keys w
 refused asked shape history number keys w code e = subst (λ (v : What). IsSearched asked shape history number keys v) (sym e) tt
 
-searched : (asked shape : Dims) (retained : ℕ) (history : List Entry) (number : ℕ) (keys : List ℕ) (w : What) → IsReadAs (read_of shape retained history (Search number asked keys)) w → IsSearched asked shape history number keys w
+searched : (asked shape : Dims) (retained : ℕ) (history : List Entry) (number : ℕ) (keys : List ℕ) (w : What) → IsReadAs (search_of shape retained history number asked keys) w → IsSearched asked shape history number keys w
 searched asked shape retained history number keys w is = by (same_shape asked shape) refl is
   where
     inner : (b : Bool) → (nat_le (oldest_of retained (length history)) number && nat_le number (length history)) ≡ b → asked.depth ≡ shape.depth
@@ -134,12 +137,21 @@ pub record Faulty (seen : ℕ) (first second : AskId) (asked s t : Dims) (a b : 
 -- its fault is a refusal
 only_refusals : (seen : ℕ) (first second : AskId) (asked s t : Dims) (a b y z : List Entry) (number : ℕ) (keys : List ℕ) (lead follow : List ℕ) (w w' : What) (f : CheckFault) → IsPrefix a y → IsPrefix b z → Agree y z → Faulty seen first second asked s t a b number keys lead follow w w' f → IsRefusal f
 only_refusals seen first second asked s t a b y z number keys lead follow (At k) w' f p q agree c = absurd c.by_lead
+only_refusals seen first second asked s t a b y z number keys lead follow (Id m name) w' f p q agree c = absurd c.by_lead
+only_refusals seen first second asked s t a b y z number keys lead follow (Staged name) w' f p q agree c = absurd c.by_lead
+only_refusals seen first second asked s t a b y z number keys lead follow (Committed m name) w' f p q agree c = absurd c.by_lead
 only_refusals seen first second asked s t a b y z number keys lead follow (Refused code) (At k) f p q agree c = absurd c.by_follow
+only_refusals seen first second asked s t a b y z number keys lead follow (Refused code) (Id m name) f p q agree c = absurd c.by_follow
+only_refusals seen first second asked s t a b y z number keys lead follow (Refused code) (Staged name) f p q agree c = absurd c.by_follow
+only_refusals seen first second asked s t a b y z number keys lead follow (Refused code) (Committed m name) f p q agree c = absurd c.by_follow
 only_refusals seen first second asked s t a b y z number keys lead follow (Refused code) (Finds g) f p q agree c =
     is_refusal f (fault.Refused Lead code) (first_fault_of number seen first second lead follow) c.faulty (lead_refused number seen first second lead follow code (Finds g) c.in_lead c.in_follow refl) tt
 only_refusals seen first second asked s t a b y z number keys lead follow (Refused code) (Refused other) f p q agree c =
     is_refusal f (fault.Refused Lead code) (first_fault_of number seen first second lead follow) c.faulty (lead_refused number seen first second lead follow code (Refused other) c.in_lead c.in_follow refl) tt
 only_refusals seen first second asked s t a b y z number keys lead follow (Finds g) (At k) f p q agree c = absurd c.by_follow
+only_refusals seen first second asked s t a b y z number keys lead follow (Finds g) (Id m name) f p q agree c = absurd c.by_follow
+only_refusals seen first second asked s t a b y z number keys lead follow (Finds g) (Staged name) f p q agree c = absurd c.by_follow
+only_refusals seen first second asked s t a b y z number keys lead follow (Finds g) (Committed m name) f p q agree c = absurd c.by_follow
 only_refusals seen first second asked s t a b y z number keys lead follow (Finds g) (Refused code) f p q agree c =
     is_refusal f (fault.Refused Follow code) (first_fault_of number seen first second lead follow) c.faulty (follow_refused number seen first second lead follow g code c.in_lead c.in_follow) tt
 only_refusals seen first second asked s t a b y z number keys lead follow (Finds g) (Finds h) f p q agree c =
@@ -171,8 +183,8 @@ failed_refused lead lead' follow follow' state keys f a b agree (inr (version, s
     let x = grown_told lead.folders s.lead_between.folders state.folder.0 a.folder_before a.told_before s.first.asked_lead.grown in
     let y = grown_told follow.folders s.follow_between.folders state.folder.0 b.folder_before b.told_before s.first.asked_follow.grown in
     let n = lengths_told lead s.lead_between follow s.follow_between state (Ok s.lengths) a.folder_before x.0 b.folder_before y.0 a.told_before x.1 b.told_before y.1 a.seen b.seen s.first in
-    let r = replied_by s.lead_between.folders lead'.folders x.0 a.folder_now (searching state 2 version keys) s.second.from_lead x.1 a.told_now s.second.asked_lead.replies in
-    let t = replied_by s.follow_between.folders follow'.folders y.0 b.folder_now (searching state 3 version keys) s.second.from_follow y.1 b.told_now s.second.asked_follow.replies in
+    let r = replied_by s.lead_between.folders lead'.folders x.0 a.folder_now (searching state 2 version keys) s.second.from_lead tt x.1 a.told_now s.second.asked_lead.replies in
+    let t = replied_by s.follow_between.folders follow'.folders y.0 b.folder_now (searching state 3 version keys) s.second.from_follow tt y.1 b.told_now s.second.asked_follow.replies in
     only_refusals state.seen (ask_of state 2) (ask_of state 3) state.shape x.0.shape y.0.shape r.history t.history a.folder_now.history b.folder_now.history version keys s.second.from_lead s.second.from_follow r.what t.what f
     r.at.earlier t.at.earlier agree
     (record {

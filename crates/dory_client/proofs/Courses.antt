@@ -4,12 +4,12 @@ use Rattle.dory_base.specs.declared.found.Found.{Found}
 use Rattle.dory_wire.specs.declared.message.Request.{Request}
 use Rattle.dory_io.specs.Bytes.{Stays}
 use Rattle.dory_link.specs.Told.{Heard}
-use Rattle.dory_verify.specs.declared.answer.Answer.{Answer}
-use Rattle.dory_verify.specs.declared.fault.CheckFault.{CheckFault}
-use Rattle.dory_verify.specs.declared.fault.VerifyError.{VerifyError}
-use Rattle.dory_verify.specs.declared.fault.VerifyError.TheVariants as errors
-use Rattle.dory_verify.specs.Checks.{Misses}
-use Rattle.dory_verify.specs.Listing.{Lists}
+use Rattle.dory_compare.specs.declared.answer.Answer.{Answer}
+use Rattle.dory_compare.specs.declared.fault.CheckFault.{CheckFault}
+use Rattle.dory_compare.specs.declared.fault.VerifyError.{VerifyError}
+use Rattle.dory_compare.specs.declared.fault.VerifyError.TheVariants as errors
+use Rattle.dory_compare.specs.Checks.{Misses}
+use Rattle.dory_compare.specs.Listing.{Lists}
 use Rattle.dory_client.specs.declared.state.KeptState.{KeptState}
 use Rattle.dory_client.specs.declared.end.ClientEnd.{ClientEnd}
 use Rattle.dory_client.specs.declared.end.ClientEnd.TheVariants as ends

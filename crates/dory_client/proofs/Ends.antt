@@ -2,7 +2,7 @@
 use Rattle.std.proofs.Common.{◌≡◌, ℕ, List, Err, refl}
 use Rattle.dory_base.specs.declared.ids.Side.TheVariants.{Lead, Follow}
 use Rattle.dory_link.specs.Told.{Heard}
-use Rattle.dory_verify.specs.declared.fault.CheckFault.{CheckFault}
+use Rattle.dory_compare.specs.declared.fault.CheckFault.{CheckFault}
 use Rattle.dory_client.specs.declared.state.KeptState.{KeptState}
 use Rattle.dory_client.specs.declared.end.ClientEnd.{ClientEnd}
 use Rattle.dory_client.specs.declared.end.ClientEnd.TheVariants as ends

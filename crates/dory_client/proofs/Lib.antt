@@ -1,4 +1,3 @@
-pub mod WriteLemmas
 pub mod Asks
 pub mod Courses
 pub mod PlainWords

@@ -11,8 +11,8 @@ use Rattle.dory_base.specs.Sealed.{plain_of}
 use Rattle.dory_base.specs.Sum.{parity, row_of, sum_of}
 use Rattle.dory_base.specs.Xor.{xor}
 use Rattle.dory_wire.specs.Read.{only_bit, shares_of, found_of}
-use Rattle.dory_verify.specs.Answer.{holds_all, matching}
-use Rattle.dory_verify.specs.Listing.{bits_by_probe, set_in_all, listed_from, listed_in}
+use Rattle.dory_compare.specs.Answer.{holds_all, matching}
+use Rattle.dory_compare.specs.Listing.{bits_by_probe, set_in_all, listed_from, listed_in}
 
 parity_none : (n : ℕ) (bits : List Bool) → parity (replicate n false) bits ≡ false
 parity_none zero bits = refl

@@ -15,11 +15,11 @@ use Rattle.dory_wire.specs.declared.fault.WireFault.{WireFault}
 use Rattle.dory_wire.specs.Frame.{message_in}
 use Rattle.dory_wire.specs.Reading.{reply_of, reply_in, reply_or_none, if_read}
 use Rattle.dory_wire.proofs.Fields.{IsBytes}
-use Rattle.dory_verify.specs.declared.fault.CheckFault.{CheckFault}
-use Rattle.dory_verify.specs.declared.fault.CheckFault.TheVariants as fault
-use Rattle.dory_verify.specs.Checks.{◌>>=◌, is_allowed, formed, framed, form, same_ask, echo, not_stale, same_bodies, lengths_of, first_fault_of}
-use Rattle.dory_verify.proofs.Alike.{alike_same}
-use Rattle.dory_verify.proofs.Both.{body_of}
+use Rattle.dory_compare.specs.declared.fault.CheckFault.{CheckFault}
+use Rattle.dory_compare.specs.declared.fault.CheckFault.TheVariants as fault
+use Rattle.dory_compare.specs.Checks.{◌>>=◌, is_allowed, formed, framed, form, same_ask, echo, not_stale, same_bodies, lengths_of, first_fault_of}
+use Rattle.dory_compare.proofs.Alike.{alike_same}
+use Rattle.dory_compare.proofs.Both.{body_of}
 
 -- the reply to an ask
 abbrev pub reply : AskId → What → Reply

@@ -1,12 +1,15 @@
 -- What comes from a link that tells the folder of a state.
 use Rattle.std.proofs.Common.{◌≡◌, ℕ, ◌≤◌, List, length, take, Option, Some, None, ap, refl, ◌∙◌, subst, arith, length-append}
+use Rattle.std.specs.Prelude.{⊤}
 use Rattle.std.proofs.lemmas.List.{take-append-le}
 use Rattle.dory_base.specs.declared.entry.Entry.{Entry}
 use Rattle.dory_base.specs.History.{IsPrefix, version_of}
+use Rattle.dory_wire.specs.declared.message.Want.{Want}
+use Rattle.dory_wire.specs.declared.message.Want.TheVariants.{Latest, Search, Which, Stage, Order, Follow}
 use Rattle.dory_wire.specs.declared.message.What.{What}
 use Rattle.dory_wire.specs.declared.message.Request.{Request}
 use Rattle.dory_wire.specs.Reading.{reply_in}
-use Rattle.dory_link.specs.Told.{Told, IsReadAt, IsAnswer, GrownFrom, Grown, Grows}
+use Rattle.dory_link.specs.Told.{Told, IsReadAt, AnswersTo, IsAnswer, GrownFrom, Grown, Grows}
 use Rattle.dory_client.specs.Asked.{Replies}
 use Rattle.dory_client.specs.Complete.{TellsFolder}
 
@@ -35,15 +38,33 @@ grown_told None now number x told g = absurd told
 grown_told (Some before) None number x told g = absurd g
 grown_told (Some before) (Some now) number x told g = grown_folder (before number) (now number) x told (g number)
 
-by_folder : (before now : Option Told) (x y : Told) (request : Request) (what : What) (frame : List ℕ) → before ≡ Some x → now ≡ Some y → reply_in frame ≡ Some (record { ask = request.ask; what = what }) → IsAnswer before now request.want what → IsReplied x y request frame
-by_folder before now x y request what frame e i replied answer =
+-- the request reads
+abbrev pub IsReading : Want → Type 0
+IsReading Latest = ⊤
+IsReading (Search number asked keys) = ⊤
+IsReading (Which number) = ⊥
+IsReading (Stage e) = ⊥
+IsReading (Order id) = ⊥
+IsReading (Follow number id) = ⊥
+
+read_at : (x y : Told) (want : Want) (what : What) → IsReading want → AnswersTo x y want what → (h : List Entry) × IsReadAt x y want what h
+read_at x y Latest what reads a = a
+read_at x y (Search number asked keys) what reads a = a
+read_at x y (Which number) what reads a = absurd reads
+read_at x y (Stage e) what reads a = absurd reads
+read_at x y (Order id) what reads a = absurd reads
+read_at x y (Follow number id) what reads a = absurd reads
+
+by_folder : (before now : Option Told) (x y : Told) (request : Request) (what : What) (frame : List ℕ) → IsReading request.want → before ≡ Some x → now ≡ Some y → reply_in frame ≡ Some (record { ask = request.ask; what = what }) → IsAnswer before now request.want what → IsReplied x y request frame
+by_folder before now x y request what frame reads e i replied answer =
     let by : IsAnswer (Some x) (Some y) request.want what =
     subst (λ (o : Option Told). IsAnswer o (Some y) request.want what) e (subst (λ (o : Option Told). IsAnswer before o request.want what) i answer) in
-    record { what = what; history = by.0; replied = replied; at = by.1 }
+    let at = read_at x y request.want what reads by in
+    record { what = what; history = at.0; replied = replied; at = at.1 }
 
 -- what came over a link that tells the folder
-pub replied_by : (before now : Option (ℕ → Option Told)) (x y : Told) (request : Request) (frame : List ℕ) → TellsFolder before request.folder.0 x → TellsFolder now request.folder.0 y → Replies before now request frame → IsReplied x y request frame
-replied_by None now x y request frame told told' replies = absurd told
-replied_by (Some before) None x y request frame told told' replies = absurd replies
-replied_by (Some before) (Some now) x y request frame told told' (what, replied, by) =
-    by_folder (before request.folder.0) (now request.folder.0) x y request what frame told told' replied by
+pub replied_by : (before now : Option (ℕ → Option Told)) (x y : Told) (request : Request) (frame : List ℕ) → IsReading request.want → TellsFolder before request.folder.0 x → TellsFolder now request.folder.0 y → Replies before now request frame → IsReplied x y request frame
+replied_by None now x y request frame reads told told' replies = absurd told
+replied_by (Some before) None x y request frame reads told told' replies = absurd replies
+replied_by (Some before) (Some now) x y request frame reads told told' (what, replied, by) =
+    by_folder (before request.folder.0) (now request.folder.0) x y request what frame reads told told' replied by

@@ -3,7 +3,7 @@ use Rattle.std.proofs.Common.{◌≡◌, ℕ, ◌≤◌, ◌<◌, ◌^◌, ◌&&
 use Rattle.std.proofs.lemmas.Bool.Decides.{nat_tests}
 use Rattle.std.specs.Prelude.{nat_le, nat_eq}
 use Rattle.std.specs.List.{AllByRecursion}
-use Rattle.dory_base.specs.Dims.{Dims}
+use Rattle.dory_base.specs.Dims.{Dims, same_shape}
 use Rattle.dory_base.specs.declared.entry.Entry.{Entry}
 use Rattle.dory_base.specs.declared.ids.AskId.{AskId}
 use Rattle.dory_base.specs.declared.found.Found.{Found}
@@ -17,12 +17,12 @@ use Rattle.dory_wire.specs.declared.message.Want.TheVariants.{Search}
 use Rattle.dory_wire.specs.declared.message.Reply.{Reply}
 use Rattle.dory_wire.specs.Spelling.{AreColumns}
 use Rattle.dory_wire.specs.Reading.{reply_in}
-use Rattle.dory_wire.specs.Read.{read_of, IsReadAs, same_shape, oldest_of, found_of}
+use Rattle.dory_wire.specs.Read.{search_of, IsReadAs, oldest_of, found_of}
 use Rattle.dory_link.specs.Told.{Told, Heard, IsReadAt, IsAnswer, Grown, Grows}
-use Rattle.dory_verify.specs.declared.answer.Answer.{Answer}
-use Rattle.dory_verify.specs.Answer.{IsRising, matching, numbers}
-use Rattle.dory_verify.specs.Listing.{Lists, listed_in}
-use Rattle.dory_verify.proofs.Both.{IsFoundIn, both_found}
+use Rattle.dory_compare.specs.declared.answer.Answer.{Answer}
+use Rattle.dory_compare.specs.Answer.{IsRising, matching, numbers}
+use Rattle.dory_compare.specs.Listing.{Lists, listed_in}
+use Rattle.dory_compare.proofs.Both.{IsFoundIn, both_found}
 use Rattle.dory_client.specs.declared.state.KeptState.{KeptState}
 use Rattle.dory_client.specs.Columns.{word_columns}
 use Rattle.dory_client.specs.Course.{searching, Answered, lesser}
@@ -38,7 +38,7 @@ same_depth : (s t : Dims) → same_shape s t ≡ true → s.depth ≡ t.depth
 same_depth s t h = grind (arith, nat_tests)
 
 -- what an honest reading found, by the cases of its tests
-read_found : (asked shape : Dims) (retained : ℕ) (history : List Entry) (version : ℕ) (keys : List ℕ) (f : Found) → IsReadAs (read_of shape retained history (Search version asked keys)) (Finds f) → (asked.depth ≡ shape.depth) × (version ≤ length history) × (f ≡ found_of shape history version keys)
+read_found : (asked shape : Dims) (retained : ℕ) (history : List Entry) (version : ℕ) (keys : List ℕ) (f : Found) → IsReadAs (search_of shape retained history version asked keys) (Finds f) → (asked.depth ≡ shape.depth) × (version ≤ length history) × (f ≡ found_of shape history version keys)
 read_found asked shape retained history version keys f is = by (same_shape asked shape) refl is
   where
     inner : (b : Bool) → (nat_le (oldest_of retained (length history)) version && nat_le version (length history)) ≡ b → same_shape asked shape ≡ true

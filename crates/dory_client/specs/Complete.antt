@@ -3,8 +3,8 @@ use Rattle.std.specs.Prelude.{ℕ, ◌≡◌, ◌≤◌, ⊤, List, Option, Some
 use Rattle.dory_base.specs.declared.entry.Entry.{Entry}
 use Rattle.dory_base.specs.History.{version_of}
 use Rattle.dory_link.specs.Told.{Told, Heard}
-use Rattle.dory_verify.specs.declared.fault.CheckFault.{CheckFault}
-use Rattle.dory_verify.specs.declared.fault.CheckFault.TheVariants as fault
+use Rattle.dory_compare.specs.declared.fault.CheckFault.{CheckFault}
+use Rattle.dory_compare.specs.declared.fault.CheckFault.TheVariants as fault
 use Rattle.dory_client.specs.declared.state.KeptState.{KeptState}
 use Rattle.dory_io.specs.Causes.{Rose}
 use Rattle.dory_client.specs.declared.end.ClientEnd.{ClientEnd}

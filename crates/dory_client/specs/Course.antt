@@ -4,10 +4,10 @@ use Rattle.dory_base.specs.declared.found.Found.{Found}
 use Rattle.dory_wire.specs.declared.message.Want.TheVariants.{Latest, Search}
 use Rattle.dory_wire.specs.declared.message.Request.{Request}
 use Rattle.dory_link.specs.Told.{Heard}
-use Rattle.dory_verify.specs.declared.answer.Answer.{Answer}
-use Rattle.dory_verify.specs.declared.fault.CheckFault.{CheckFault}
-use Rattle.dory_verify.specs.Checks.{lengths_of, first_fault_of}
-use Rattle.dory_verify.specs.Listing.{Lists}
+use Rattle.dory_compare.specs.declared.answer.Answer.{Answer}
+use Rattle.dory_compare.specs.declared.fault.CheckFault.{CheckFault}
+use Rattle.dory_compare.specs.Checks.{lengths_of, first_fault_of}
+use Rattle.dory_compare.specs.Listing.{Lists}
 use Rattle.dory_client.specs.declared.state.KeptState.{KeptState}
 use Rattle.dory_client.specs.declared.end.ClientEnd.{ClientEnd}
 use Rattle.dory_client.specs.declared.end.ClientEnd.TheVariants as ends

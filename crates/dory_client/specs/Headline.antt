@@ -5,8 +5,8 @@ use Rattle.dory_base.specs.declared.entry.Entry.{Entry}
 use Rattle.dory_base.specs.History.{IsPrefix}
 use Rattle.dory_io.specs.Bytes.{Tells, Stays}
 use Rattle.dory_link.specs.Told.{Told, Heard}
-use Rattle.dory_verify.specs.declared.answer.Answer.{Answer}
-use Rattle.dory_verify.specs.Answer.{IsAnswer}
+use Rattle.dory_compare.specs.declared.answer.Answer.{Answer}
+use Rattle.dory_compare.specs.Answer.{IsAnswer}
 use Rattle.dory_hmac.specs.FolderKeys.{keys_of}
 use Rattle.dory_client.specs.declared.state.KeptState.{KeptState}
 use Rattle.dory_client.specs.declared.end.ClientEnd.{ClientEnd}
@@ -15,7 +15,7 @@ use Rattle.dory_client.specs.State.{state_of, not_kept}
 use Rattle.dory_client.specs.CommandLine.{searched_word}
 use Rattle.dory_client.specs.Columns.{word_columns}
 use Rattle.dory_client.specs.Text.{answer_text}
-use Rattle.dory_client.specs.Output.{AppendsPart}
+use Rattle.dory_io.specs.Output.{AppendsPart}
 use Rattle.dory_client.specs.Course.{Answered, Failed, Broken}
 
 -- what the kept bytes and the words say

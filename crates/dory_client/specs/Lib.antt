@@ -2,7 +2,6 @@ pub mod State
 pub mod CommandLine
 pub mod Columns
 pub mod Text
-pub mod Output
 pub mod Asked
 pub mod Course
 pub mod Headline

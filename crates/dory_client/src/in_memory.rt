@@ -1,15 +1,17 @@
 //! Two domains in memory and a member's state, so that a search runs without servers.
 ghost use Rattle.std.specs.Prelude.{◌≡◌, IfOk};
 ghost use Rattle.dory_base.specs.Dims.{Dims};
-ghost use Rattle.dory_domain.specs.Serials.{HasSerial, IsReady};
+ghost use Rattle.dory_wire.specs.Spelling.{IsEntry, IsWant};
 
 use dory_base::{
-    Change, DocId, Entry, FolderId, MemberId, NoMemory, Shape, Side, Tag, Tags, UpdateId, Word,
+    AskId, Change, DocId, Entry, FolderId, MemberId, NoMemory, Shape, Side, Tag, Tags, UpdateId,
+    Word,
 };
 use dory_bloom::plain_row;
 use dory_domain::{DomainCore, FolderConfig};
 use dory_hmac::FolderKeys;
 use dory_link::DomainLink;
+use dory_wire::{Request, Want, What};
 use std::alloc::Global;
 
 /// The master key of the folder.
@@ -30,7 +32,8 @@ fn shape() -> Shape
 
 /// Update 0.1, which posts document 7 with one word.
 fn post(alloc: Global, shape: Shape, word: Word) -> Result<Entry, NoMemory>
-    ensures { IfOk result (HasSerial shape 1) }
+    requires { shape ≡ record { depth = 8; probes = 2 } }
+    ensures { IfOk result IsEntry }
 {
     let keys = FolderKeys::derive(&MASTER, FOLDER);
     let row = plain_row(alloc, &keys, shape, &[word])?;
@@ -50,11 +53,9 @@ fn post(alloc: Global, shape: Shape, word: Word) -> Result<Entry, NoMemory>
 }
 
 /// A domain whose folder has no update.
-fn empty_core(alloc: Global, role: Side) -> Result<DomainCore, NoMemory>
-    ensures { IfOk result (λ core. IsReady (record { depth = 8; probes = 2 }) 1 core.folders) }
-{
+fn empty_core(alloc: Global, role: Side) -> Result<DomainCore, NoMemory> {
     let configs = [FolderConfig {
-        folder: FolderId(1),
+        folder: FolderId(FOLDER),
         shape: shape(),
         retained: 64,
     }];
@@ -64,12 +65,45 @@ fn empty_core(alloc: Global, role: Side) -> Result<DomainCore, NoMemory>
     }
 }
 
+/// What a domain answers to a member's request.
+fn answer(alloc: Global, core: &mut DomainCore, step: u32, want: Want) -> What
+    requires { IsWant want }
+{
+    let ask = AskId {
+        member: MemberId(0),
+        serial: 1,
+        step,
+    };
+    let request = Request {
+        ask,
+        folder: FolderId(FOLDER),
+        want,
+    };
+    core.step(alloc, &request).what
+}
+
+/// Commits a folder's first update: staged, and then ordered at a lead or followed at a follower.
+fn commit(alloc: Global, core: &mut DomainCore, role: Side, entry: Entry) -> Result<(), NoMemory>
+    requires { IsEntry entry }
+{
+    let id = entry.id;
+    answer(alloc, core, 0, Want::Stage { entry });
+    let want = match role {
+        Side::Lead => Want::Order { id },
+        Side::Follow => Want::Follow { number: 1, id },
+    };
+    match answer(alloc, core, 1, want) {
+        What::Committed { .. } => Ok(()),
+        _ => Err(NoMemory),
+    }
+}
+
 /// A domain whose folder has the word's document, or no document.
 fn core(alloc: Global, role: Side, word: Option<Word>) -> Result<DomainCore, NoMemory> {
     let mut core = empty_core(alloc, role)?;
     if let Some(word) = word {
         let entry = post(alloc, shape(), word)?;
-        core.load(alloc, FolderId(1), entry)?;
+        commit(alloc, &mut core, role, entry)?;
     }
     Ok(core)
 }

@@ -4,7 +4,6 @@
 mod ask;
 mod end;
 mod in_memory;
-mod output;
 mod run;
 mod search;
 mod state;
@@ -19,7 +18,7 @@ use crate::in_memory::{kept, link};
 use crate::run::client_run;
 use crate::std_sink::StdSink;
 use dory_base::{NoMemory, Side, Word};
-use dory_io::{MemKeeper, VecSource};
+use dory_io::{MemKeeper, VecSource, write_all};
 use std::alloc::Global;
 use std::io::Write;
 use std::process::ExitCode;
@@ -91,7 +90,7 @@ fn end_of<R: Env + AllocGlobal, W: Write + Drop>(rt: &R, stdout: W) -> ClientEnd
     };
     if let Some(text) = asked_text(&words) {
         let mut out = StdSink::new(alloc, stdout);
-        return match output::write_all(&mut out, text.as_bytes()) {
+        return match write_all(&mut out, text.as_bytes()) {
             Ok(()) => ClientEnd::Done,
             Err(_) => ClientEnd::OutputFault,
         };

@@ -4,17 +4,16 @@ ghost use Rattle.dory_io.specs.Bytes.{Stays};
 ghost use Rattle.dory_io.specs.Causes.{Rose};
 ghost use Rattle.dory_client.specs.CommandLine.{searched_word};
 ghost use Rattle.dory_client.specs.Headline.{IsRun, IsAccepted};
-ghost use Rattle.dory_verify.specs.declared.fault.CheckFault.{CheckFault};
+ghost use Rattle.dory_compare.specs.declared.fault.CheckFault.{CheckFault};
 ghost use Rattle.dory_client.specs.Complete.{TellAlike, IsRefusal, EndsWell, Unhindered};
 
 use crate::end::{ClientEnd, UsageFault};
-use crate::output::write_all;
 use crate::search::search;
 use crate::state::read_state;
 use crate::text::answer_text;
 use crate::words::read_words;
 use dory_base::Side;
-use dory_io::{KeepError, Keeper, Sink, Source};
+use dory_io::{KeepError, Keeper, Sink, Source, write_all};
 use dory_link::Link;
 use std::alloc::Global;
 

@@ -4,7 +4,7 @@ ghost use Rattle.dory_base.specs.declared.found.Found.{Found};
 ghost use Rattle.dory_wire.specs.declared.message.Want.TheVariants.{Latest};
 ghost use Rattle.dory_wire.specs.Spelling.{IsWant, IsRequest, AreColumns};
 ghost use Rattle.dory_io.specs.Causes.{HasCause};
-ghost use Rattle.dory_verify.specs.Listing.{Lists};
+ghost use Rattle.dory_compare.specs.Listing.{Lists};
 ghost use Rattle.dory_client.specs.State.{IsKept};
 ghost use Rattle.dory_client.specs.Columns.{word_columns};
 ghost use Rattle.dory_client.specs.Asked.{ask_of, asked_of, check_end};
@@ -15,8 +15,8 @@ use crate::end::ClientEnd;
 use crate::state::KeptState;
 use crate::words::columns;
 use dory_base::{AskId, Keys, Side, Word};
+use dory_compare::{Answer, VerifyError, check_latest, compare};
 use dory_link::Link;
-use dory_verify::{Answer, VerifyError, check_latest, compare};
 use dory_wire::{Request, Want};
 use std::alloc::Global;
 

@@ -4,9 +4,9 @@ use crate::end::{ClientEnd, UsageFault, client_text};
 use crate::in_memory::{kept, link};
 use crate::run::client_run;
 use dory_base::{NoMemory, Side, Word};
+use dory_compare::CheckFault;
 use dory_io::{MemKeeper, VecSink, VecSource};
 use dory_link::{Exchange, Link, ScriptLink};
-use dory_verify::CheckFault;
 use std::alloc::Global;
 
 // How a call over these links ends, and what it wrote.

@@ -1,7 +1,7 @@
 use Rattle.dory_client.proofs.Ends.{search_ends}
 use Rattle.std.proofs.Common.{ap, Err, rules, ℕ, List, map, string_bytes, subst, ◌∙◌, inr}
 use Rattle.dory_client.specs.Text.{answer_text}
-use Rattle.dory_client.specs.Output.{AppendsPart}
+use Rattle.dory_io.specs.Output.{AppendsPart}
 use Rattle.dory_client.specs.Headline.{Began}
 use Rattle.dory_client.proofs.Courses.{ended, broken_after}
 use Rattle.dory_client.proofs.Right.{right_lead, right_follow}

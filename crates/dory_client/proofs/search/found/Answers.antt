@@ -1,6 +1,6 @@
 use Rattle.std.proofs.Common.{rules, ◌≡◌, ◌∙◌, ◌∷◌, [], ℕ, Ok, Err, refl, subst}
-use Rattle.dory_verify.specs.Checks.{first_fault_of}
-use Rattle.dory_verify.specs.Listing.{Lists}
+use Rattle.dory_compare.specs.Checks.{first_fault_of}
+use Rattle.dory_compare.specs.Listing.{Lists}
 use Rattle.dory_client.specs.Asked.{ask_of}
 use Rattle.dory_client.specs.Course.{searching}
 use Rattle.dory_client.proofs.Asks.{on_err, first_broken, second_broken, both_asked}
