@@ -24,6 +24,7 @@ empty_part width = record { width = width; slots = replicate 64 None }
 abbrev pub put_in : Part → ℕ → Option Entry → Part
 put_in part place slot = record { width = part.width; slots = slice_set part.slots place slot }
 
+-- the chunk of this number
 abbrev pub part_at : List Part → ℕ → Part
 part_at parts n = slice_index_or parts n (record { width = 0; slots = [] })
 

@@ -12,6 +12,7 @@ place_for (Some own) empty count = Some own
 place_for None (Some empty) count = Some empty
 place_for None None count = if nat_lt count 4096 then Some count else None
 
+-- the slot that a post or a removal of this document changes, if it changes one
 abbrev pub target_in : Slots → DocId → Change → Option ℕ
 target_in slots doc (Post shape row tags) = place_for (position (has_doc doc) slots) (position is_none slots) (length slots)
 target_in slots doc Remove = position (has_doc doc) slots
@@ -20,6 +21,7 @@ target_in slots doc Remove = position (has_doc doc) slots
 abbrev pub target_of : Slots → Entry → Option ℕ
 target_of slots e = target_in slots e.doc e.change
 
+-- a post leaves itself in that slot, and a removal nothing
 abbrev pub left_in : Entry → Change → Option Entry
 left_in e (Post shape row tags) = Some e
 left_in e Remove = None

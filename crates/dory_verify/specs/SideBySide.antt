@@ -32,6 +32,7 @@ pub record Both : Type 0 where
   pub mine : List Bool
   pub other : List Bool
 
+-- the probe as the other domain was sent it
 abbrev pub other_of : Both → Probe
 other_of b = record { column = b.column; shares = b.other }
 
@@ -45,5 +46,6 @@ pub record IsChecked (tag : ℕ → Place → Bool → ℕ) (slots : Slots) (b :
   pub count : length given.bits ≡ length (manifest_of slots)
   pub adds : AddUp tag slots b.column (sum_of slots b.mine) given
 
+-- the bits show the cells of the probe's column
 abbrev pub IsShown : Slots → Both → Sum → Type 0
 IsShown slots b given = ShowsCells slots b.column (sum_of slots b.mine) given
