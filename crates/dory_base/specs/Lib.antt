@@ -6,7 +6,6 @@ pub mod History
 pub mod Table
 pub mod Sum
 pub mod PointPair
-pub mod Sealed
 pub mod Words
 pub mod WordKept
 pub mod TableMeaning
