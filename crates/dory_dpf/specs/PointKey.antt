@@ -118,3 +118,9 @@ pub record IsKey (key : PointKey) : Type 0 where
   pub levels : length key.corrections ≡ levels_of (form_of key) key.depth
   pub whole : All (λ c. length c.seed ≡ 16) key.corrections
   pub last : length (last_bytes key.last) ≡ last_len (form_of key)
+
+-- a key of this form and depth
+pub record IsKeyOf (f d : ℕ) (k : PointKey) : Type 0 where
+  pub key : IsKey k
+  pub form : form_of k ≡ f
+  pub depth : k.depth ≡ d

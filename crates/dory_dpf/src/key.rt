@@ -50,6 +50,19 @@ impl Key {
         }
     }
 
+    /// An equal key.
+    pub fn again(&self) -> Key
+        ensures { result ≡ self.now }
+    {
+        Key {
+            depth: self.depth,
+            party: self.party,
+            seed: self.seed,
+            corrections: self.corrections,
+            last: self.last,
+        }
+    }
+
     /// 1, or 2 for a key with a last word.
     pub fn form(&self) -> u8
         ensures { result ≡ form_of self.now }

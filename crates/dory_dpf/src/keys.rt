@@ -1,7 +1,9 @@
 //! The keys of a search.
-ghost use Rattle.std.specs.Prelude.{◌≡◌};
+ghost use Rattle.std.specs.Prelude.{◌≡◌, IfOk};
 
 use crate::key::Key;
+use dory_base::NoMemory;
+use std::alloc::Global;
 use std::marker::Model;
 
 /// A key for each probe.
@@ -24,6 +26,17 @@ impl Keys {
         ensures { result ≡ keys.items }
     {
         Keys { keys }
+    }
+
+    /// Equal keys.
+    pub fn copy(&self, alloc: Global) -> Result<Keys, NoMemory>
+        ensures { IfOk result (λ keys. keys ≡ self.now) }
+    {
+        let mut keys = Vec::new(alloc);
+        for key in &self.keys {
+            keys.push(key.again())?;
+        }
+        Ok(Keys { keys })
     }
 
     pub fn items(&self) -> &[Key]
