@@ -1,5 +1,5 @@
 -- How long messages are, and that an encoder's frame is read back.
-use Rattle.std.proofs.Common.{◌≡◌, ◌∙◌, ℕ, suc, ◌*◌, ◌≤◌, List, [], ◌∷◌, ◌++◌, length, Some, Result, Ok, Err, refl, ap, arith}
+use Rattle.std.proofs.Common.{◌≡◌, ◌∙◌, ℕ, suc, ◌*◌, ◌≤◌, List, [], ◌∷◌, ◌++◌, length, Some, Result, Ok, Err, refl, ap, arith, All, Option, None}
 use Rattle.std.specs.Prelude.{IfOk}
 use Rattle.std.specs.Global.{Vec}
 use Rattle.std.specs.List.{flat_map, AllByRecursion}
@@ -15,6 +15,9 @@ use Rattle.dory_base.specs.declared.found.Sum.{Sum}
 use Rattle.dory_base.specs.declared.found.Found.{Found}
 use Rattle.dory_base.specs.declared.refusal.Refusal.{Refusal}
 use Rattle.dory_base.specs.declared.refusal.Refusal.TheVariants.{NoFolder, ShapeWrong, Unretained, BadMember, Past, Clash, Unfinished, Unstaged, Taken, Gap, WrongRole, HistoryFull, NoEntry, NoMemory}
+use Rattle.dory_dpf.specs.declared.tree.Correction.{Correction}
+use Rattle.dory_dpf.specs.PointKey.{PointKey, IsKey, IsKeyOf, form_with, last_bytes, last_len, levels_of}
+use Rattle.dory_dpf.specs.KeyBytes.{bytes_of_key, control_byte, correction_bytes}
 use Rattle.dory_wire.specs.declared.message.Want.{Want}
 use Rattle.dory_wire.specs.declared.message.Want.TheVariants.{Latest, Search, Which, Stage, Order, Follow}
 use Rattle.dory_wire.specs.declared.message.What.{What}
@@ -22,7 +25,7 @@ use Rattle.dory_wire.specs.declared.message.What.TheVariants.{At, Found as Finds
 use Rattle.dory_wire.specs.declared.message.Request.{Request}
 use Rattle.dory_wire.specs.declared.message.Reply.{Reply}
 use Rattle.dory_wire.specs.Frame.{frame_of}
-use Rattle.dory_wire.specs.Spelling.{ask, four, id, packed, line, sum, found, change, entry, refusal_fields, want, what, spelling_of_request, spelling_of_reply, IsSum, IsFound, IsChange, IsEntry, IsWant, IsWhat, IsRequest, IsReply}
+use Rattle.dory_wire.specs.Spelling.{ask, four, id, packed, line, sum, found, change, entry, refusal_fields, want, what, spelling_of_request, spelling_of_reply, form_of_keys, IsSum, IsFound, IsChange, IsEntry, IsWant, IsWhat, IsRequest, IsReply}
 use Rattle.dory_wire.specs.Reading.{request_in, request_or_none, reply_in, reply_or_none, if_read}
 use Rattle.dory_wire.proofs.Packing.{length-packed}
 use Rattle.dory_wire.proofs.Ranges.{narrow}
@@ -31,9 +34,34 @@ use Rattle.dory_wire.proofs.FrameLaws.{message_in_frame}
 use Rattle.dory_wire.proofs.RequestLaws.{read_again_request}
 use Rattle.dory_wire.proofs.ReplyLaws.{read_again_reply}
 
-length-columns : (cs : List ℕ) → length (flat_map (to_be_bytes w16) cs) ≡ 2 * length cs
-length-columns [] = refl
-length-columns (c ∷ cs) = ap length (flat_map-cons (to_be_bytes w16) c cs) ∙ omega (arith, length-append (to_be_bytes w16 c) (flat_map (to_be_bytes w16) cs), length-columns cs)
+length-corrections : (cs : List Correction) → All (λ c. length c.seed ≡ 16) cs → length (flat_map correction_bytes cs) ≡ 17 * length cs
+length-corrections [] all = refl
+length-corrections (c ∷ cs) all =
+    let one : length (correction_bytes c) ≡ 17 = omega (arith, length-append c.seed (control_byte c.left_bit c.right_bit ∷ []), all 0 c (omega arith)) in
+    let more = length-corrections cs (λ k d h. all (suc k) d (omega arith)) in
+    ap length (flat_map-cons correction_bytes c cs) ∙ omega (arith, length-append (correction_bytes c) (flat_map correction_bytes cs), one, more)
+
+-- a key has a correction for each level, at most eleven
+few_levels : (word : Option (List ℕ)) (depth : ℕ) → depth ≤ 11 → levels_of (form_with word) depth ≤ 11
+few_levels None depth high = high
+few_levels (Some word) depth high = omega arith
+
+few_last : (word : Option (List ℕ)) → last_len (form_with word) ≤ 16
+few_last None = omega arith
+few_last (Some word) = omega arith
+
+short_key : (k : PointKey) → IsKey k → length (bytes_of_key k) ≤ 300
+unfolding bytes_of_key
+short_key k is =
+    let flat = flat_map correction_bytes k.corrections in
+    let last = last_bytes k.last in
+    omega (arith, length-append (k.seed ++ flat) last, length-append k.seed flat, is.seed, length-corrections k.corrections is.whole, is.levels, few_levels k.last k.depth is.high, is.last, few_last k.last)
+
+short_keys : (form depth : ℕ) (ks : List PointKey) → AllByRecursion (IsKeyOf form depth) ks → length (flat_map bytes_of_key ks) ≤ 300 * length ks
+short_keys form depth [] are = omega arith
+short_keys form depth (k ∷ ks) are =
+    let e : length (flat_map bytes_of_key (k ∷ ks)) ≡ length (bytes_of_key k ++ flat_map bytes_of_key ks) = ap length (flat_map-cons bytes_of_key k ks) in
+    omega (arith, e, length-append (bytes_of_key k) (flat_map bytes_of_key ks), short_key k are.0.key, short_keys form depth ks are.1)
 
 length-line : (p : Place) → length (line p) ≡ 18
 length-line p = refl
@@ -102,7 +130,10 @@ short_what (Refused code) is = omega (arith, short_fields code)
 
 short_want : (w : Want) → IsWant w → length (want w) ≤ 90000
 short_want Latest is = omega arith
-short_want (Search version shape keys) is = omega (arith, length-columns keys, is.2.many, is.1.few)
+short_want (Search version shape keys) is =
+    let flat = flat_map bytes_of_key keys in
+    let four_bytes : length (four version) ≡ 4 = refl in
+    omega (arith, four_bytes, length-append (four version) (shape.depth ∷ shape.probes ∷ form_of_keys keys ∷ flat), short_keys (form_of_keys keys) shape.depth keys is.2.each, is.2.many, is.1.few)
 short_want (Which number) is = omega arith
 short_want (Stage e) is = omega (arith, short_entry e is)
 short_want (Order name) is = omega arith

@@ -8,6 +8,7 @@ pub mod Ranges
 pub mod Made
 pub mod Staging
 pub mod Refusing
+pub mod KeyFields
 pub mod RequestLaws
 pub mod ReplyLaws
 pub mod FrameLaws

@@ -1,13 +1,14 @@
 -- Reading fields of one kind one after the other, as a loop does.
 use Rattle.std.proofs.Common.{◌≡◌, ℕ, suc, ◌-◌, ◌+◌, ◌≤◌, ◌<◌, List, [], ◌∷◌, ◌++◌, Result, Ok, Err, refl, sym, ap, ◌∙◌, append_assoc, arith}
-use Rattle.std.specs.Int.{w16}
 use Rattle.std.proofs.lemmas.List.{append-nil}
 use Rattle.dory_base.specs.TagBytes.{tag_number}
 use Rattle.dory_base.specs.declared.found.Place.{Place}
 use Rattle.dory_base.specs.declared.found.Sum.{Sum}
+use Rattle.dory_dpf.specs.declared.tree.Correction.{Correction}
+use Rattle.dory_dpf.specs.PointKey.{PointKey}
 use Rattle.dory_wire.specs.declared.fault.WireFault.{WireFault}
 use Rattle.dory_wire.specs.declared.fault.WireFault.TheVariants.{Kind, Body, Trailing, NoMemory}
-use Rattle.dory_wire.specs.Reading.{◌>>=◌, Fails, is_column, tested_at, columns_at, line_at, lines_at, sum_at, sums_at, field_at, tags_at}
+use Rattle.dory_wire.specs.Reading.{◌>>=◌, Fails, correction_at, corrections_at, key_at, keys_at, line_at, lines_at, sum_at, sums_at, field_at, tags_at}
 
 -- what was read before, and what is still read
 abbrev pub with_front : {A : Type 0} → List A → Result (List A × List ℕ) WireFault → Result (List A × List ℕ) WireFault
@@ -24,30 +25,56 @@ fails_all (Kind b) one whole h g = h (Kind b) g
 fails_all (Body at) one whole h g = h (Body at) g
 fails_all (Trailing at) one whole h g = h (Trailing at) g
 
--- ---- columns
+-- ---- corrections
 
-pub columns_go : (front : List ℕ) (count i depth total : ℕ) (bytes : List ℕ) (n : ℕ) (after : List ℕ) (all : Result (List ℕ × List ℕ) WireFault) → i < count → tested_at w16 (is_column depth) total bytes ≡ Ok (n, after)
-    → with_front front (columns_at (count - i) depth total bytes) ≡ all → with_front (front ++ n ∷ []) (columns_at (count - (i + 1)) depth total after) ≡ all
-unfolding columns_at
-columns_go front count i depth total bytes n after all lt h so_far =
+pub corrections_go : (front : List Correction) (count i total : ℕ) (bytes : List ℕ) (n : Correction) (after : List ℕ) (all : Result (List Correction × List ℕ) WireFault) → i < count → correction_at total bytes ≡ Ok (n, after)
+    → with_front front (corrections_at (count - i) total bytes) ≡ all → with_front (front ++ n ∷ []) (corrections_at (count - (i + 1)) total after) ≡ all
+unfolding corrections_at
+corrections_go front count i total bytes n after all lt h so_far =
     let k : count - i ≡ suc (count - (i + 1)) = omega arith in
-    let one : with_front front (columns_at (count - i) depth total bytes) ≡ with_front (front ++ n ∷ []) (columns_at (count - (i + 1)) depth total after) = rw (k, h) (regroup front n (columns_at (count - (i + 1)) depth total after)) in
+    let one : with_front front (corrections_at (count - i) total bytes) ≡ with_front (front ++ n ∷ []) (corrections_at (count - (i + 1)) total after) = rw (k, h) (regroup front n (corrections_at (count - (i + 1)) total after)) in
     sym one ∙ so_far
 
-pub columns_fail : (e : WireFault) (front : List ℕ) (count i depth total : ℕ) (bytes : List ℕ) (all : Result (List ℕ × List ℕ) WireFault) → i < count → Fails e (tested_at w16 (is_column depth) total bytes)
-    → with_front front (columns_at (count - i) depth total bytes) ≡ all → Fails e all
-unfolding columns_at
-columns_fail e front count i depth total bytes all lt fails so_far =
+pub corrections_fail : (e : WireFault) (front : List Correction) (count i total : ℕ) (bytes : List ℕ) (all : Result (List Correction × List ℕ) WireFault) → i < count → Fails e (correction_at total bytes)
+    → with_front front (corrections_at (count - i) total bytes) ≡ all → Fails e all
+unfolding corrections_at
+corrections_fail e front count i total bytes all lt fails so_far =
     let k : count - i ≡ suc (count - (i + 1)) = omega arith in
-    fails_all e (tested_at w16 (is_column depth) total bytes) all (λ f h.
-    let one : with_front front (columns_at (count - i) depth total bytes) ≡ Err f = rw (k, h) refl in
+    fails_all e (correction_at total bytes) all (λ f h.
+    let one : with_front front (corrections_at (count - i) total bytes) ≡ Err f = rw (k, h) refl in
     sym so_far ∙ one) fails
 
-pub columns_done : (front : List ℕ) (count i depth total : ℕ) (bytes : List ℕ) (all : Result (List ℕ × List ℕ) WireFault) → count ≤ i → with_front front (columns_at (count - i) depth total bytes) ≡ all → all ≡ Ok (front, bytes)
-unfolding columns_at
-columns_done front count i depth total bytes all le so_far =
+pub corrections_done : (front : List Correction) (count i total : ℕ) (bytes : List ℕ) (all : Result (List Correction × List ℕ) WireFault) → count ≤ i → with_front front (corrections_at (count - i) total bytes) ≡ all → all ≡ Ok (front, bytes)
+unfolding corrections_at
+corrections_done front count i total bytes all le so_far =
     let k : count - i ≡ 0 = omega arith in
-    let one : with_front front (columns_at (count - i) depth total bytes) ≡ Ok (front, bytes) = rw k (ap (λ (ns : List ℕ). Ok (ns, bytes)) (append-nil front)) in
+    let one : with_front front (corrections_at (count - i) total bytes) ≡ Ok (front, bytes) = rw k (ap (λ (ns : List Correction). Ok (ns, bytes)) (append-nil front)) in
+    sym so_far ∙ one
+
+-- ---- keys
+
+pub keys_go : (front : List PointKey) (count i form depth total : ℕ) (bytes : List ℕ) (n : PointKey) (after : List ℕ) (all : Result (List PointKey × List ℕ) WireFault) → i < count → key_at form depth total bytes ≡ Ok (n, after)
+    → with_front front (keys_at (count - i) form depth total bytes) ≡ all → with_front (front ++ n ∷ []) (keys_at (count - (i + 1)) form depth total after) ≡ all
+unfolding keys_at
+keys_go front count i form depth total bytes n after all lt h so_far =
+    let k : count - i ≡ suc (count - (i + 1)) = omega arith in
+    let one : with_front front (keys_at (count - i) form depth total bytes) ≡ with_front (front ++ n ∷ []) (keys_at (count - (i + 1)) form depth total after) = rw (k, h) (regroup front n (keys_at (count - (i + 1)) form depth total after)) in
+    sym one ∙ so_far
+
+pub keys_fail : (e : WireFault) (front : List PointKey) (count i form depth total : ℕ) (bytes : List ℕ) (all : Result (List PointKey × List ℕ) WireFault) → i < count → Fails e (key_at form depth total bytes)
+    → with_front front (keys_at (count - i) form depth total bytes) ≡ all → Fails e all
+unfolding keys_at
+keys_fail e front count i form depth total bytes all lt fails so_far =
+    let k : count - i ≡ suc (count - (i + 1)) = omega arith in
+    fails_all e (key_at form depth total bytes) all (λ f h.
+    let one : with_front front (keys_at (count - i) form depth total bytes) ≡ Err f = rw (k, h) refl in
+    sym so_far ∙ one) fails
+
+pub keys_done : (front : List PointKey) (count i form depth total : ℕ) (bytes : List ℕ) (all : Result (List PointKey × List ℕ) WireFault) → count ≤ i → with_front front (keys_at (count - i) form depth total bytes) ≡ all → all ≡ Ok (front, bytes)
+unfolding keys_at
+keys_done front count i form depth total bytes all le so_far =
+    let k : count - i ≡ 0 = omega arith in
+    let one : with_front front (keys_at (count - i) form depth total bytes) ≡ Ok (front, bytes) = rw k (ap (λ (ns : List PointKey). Ok (ns, bytes)) (append-nil front)) in
     sym so_far ∙ one
 
 -- ---- lines

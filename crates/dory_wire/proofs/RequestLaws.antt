@@ -1,54 +1,29 @@
 -- The two laws of requests: what is read is spelled so, and what is spelled so is read.
-use Rattle.std.proofs.Common.{◌≡◌, ℕ, zero, suc, ◌^◌, ◌<◌, ◌≤◌, true, cond, eqb, leb, List, [], ◌∷◌, ◌++◌, length, Result, Ok, Err, refl, sym, ap, subst, ◌∙◌, append_assoc, arith}
+use Rattle.std.proofs.Common.{◌≡◌, ℕ, suc, ◌^◌, ◌≤◌, true, cond, eqb, leb, List, [], ◌∷◌, ◌++◌, length, Result, Ok, Err, refl, sym, ap, subst, ◌∙◌, append_assoc, arith}
 use Rattle.std.specs.List.{flat_map, AllByRecursion}
 use Rattle.std.specs.Prelude.{IfOk}
-use Rattle.std.specs.Int.{w16, w32, to_be_bytes}
-use Rattle.std.proofs.lemmas.Bool.{leb-true, ltb-true, le-leb, lt-ltb, eqb-true}
+use Rattle.std.specs.Int.{w32}
+use Rattle.std.proofs.lemmas.Bool.{leb-true, le-leb}
 use Rattle.std.proofs.lemmas.List.{append-nil}
-use Rattle.std.proofs.lemmas.List.Concat.{flat_map-cons}
 use Rattle.dory_base.specs.Dims.{Dims, IsDims}
 use Rattle.dory_base.specs.declared.ids.AskId.{AskId}
+use Rattle.dory_dpf.specs.PointKey.{PointKey, IsKeyOf}
+use Rattle.dory_dpf.specs.KeyBytes.{bytes_of_key}
 use Rattle.dory_wire.specs.declared.message.Want.{Want}
 use Rattle.dory_wire.specs.declared.message.Want.TheVariants.{Latest, Search, Which, Stage, Order, Follow}
 use Rattle.dory_wire.specs.declared.message.Request.{Request}
 use Rattle.dory_wire.specs.declared.fault.WireFault.{WireFault}
 use Rattle.dory_wire.specs.declared.fault.WireFault.TheVariants.{Kind}
-use Rattle.dory_wire.specs.Spelling.{four, ask, want, want_kind, spelling_of_request, AreColumns, IsWant, IsRequest}
-use Rattle.dory_wire.specs.Reading.{◌>>=◌, Gives, number_at, tested_at, byte_at, ask_at, columns_at, search_at, which_at, stage_at, entry_at, named_at, numbered_at, want_at, ended, request_at, request_of, is_column, is_count, is_number, is_depth, is_probes, is_form, is_asking}
-use Rattle.dory_wire.proofs.Fields.{IsBytes, IsBytes-rest, bind_ok, ok_is, Takes, Takes-then, wide16, wide32, number_takes, number_again, tested_takes, tested_again, byte_takes, byte_again, ask_takes, ask_again}
-use Rattle.dory_wire.proofs.Ranges.{both_true, narrow, ended_ok, choice_met, depth_range, probes_range, depth_met, probes_met}
+use Rattle.dory_wire.specs.Spelling.{four, ask, want, want_kind, spelling_of_request, form_of_keys, AreKeys, IsWant, IsRequest}
+use Rattle.dory_wire.specs.Reading.{◌>>=◌, Gives, number_at, tested_at, byte_at, ask_at, keys_at, search_at, which_at, stage_at, entry_at, named_at, numbered_at, want_at, ended, request_at, request_of, is_count, is_number, is_depth, is_probes, is_form, is_asking}
+use Rattle.dory_wire.proofs.Fields.{IsBytes, IsBytes-rest, bind_ok, ok_is, Takes, Takes-then, wide32, number_takes, number_again, tested_takes, tested_again, byte_takes, byte_again, ask_takes, ask_again}
+use Rattle.dory_wire.proofs.Ranges.{both_true, ended_ok, choice_met, depth_range, probes_range, depth_met, probes_met}
+use Rattle.dory_wire.proofs.KeyFields.{form_is, form_met, form_range, keys_again, keys_take}
 use Rattle.dory_wire.proofs.Made.{number_range, number_met, named_takes, named_again, numbered_takes, numbered_again, by_number, at_last}
 use Rattle.dory_wire.proofs.Staging.{entry_takes, entry_again}
 
-pub columns_take : (n depth total : ℕ) (bytes : List ℕ) (x : List ℕ × List ℕ) → IsBytes bytes → columns_at n depth total bytes ≡ Ok x
-    → Takes bytes (flat_map (to_be_bytes w16) x.0) x.1 × (length x.0 ≡ n) × AllByRecursion (λ c. c < 2 ^ depth) x.0
-unfolding columns_at
-columns_take zero depth total bytes x fits e =
-    subst (λ (y : List ℕ × List ℕ). Takes bytes (flat_map (to_be_bytes w16) y.0) y.1 × (length y.0 ≡ 0) × AllByRecursion (λ c. c < 2 ^ depth) y.0) (ok_is ([], bytes) x e) (record { parts = refl; rest_fits = fits }, refl, tt)
-columns_take (suc n) depth total bytes x fits e =
-    let a = bind_ok (tested_at w16 (is_column depth) total bytes) (λ c. columns_at n depth total c.1 >>= λ more. Ok (c.0 ∷ more.0, more.1)) x e in
-    let b = bind_ok (columns_at n depth total a.0.1) (λ more. Ok (a.0.0 ∷ more.0, more.1)) x a.2 in
-    let first = tested_takes w16 (2 ^ 16) wide16 (is_column depth) total bytes a.0.0 a.0.1 fits a.1 in
-    let second = columns_take n depth total a.0.1 b.0 first.0.rest_fits b.1 in
-    let both = Takes-then bytes (to_be_bytes w16 a.0.0) a.0.1 (flat_map (to_be_bytes w16) b.0.0) b.0.1 first.0 second.0 in
-    let made : List ℕ × List ℕ = (a.0.0 ∷ b.0.0, b.0.1) in
-    subst (λ (y : List ℕ × List ℕ). Takes bytes (flat_map (to_be_bytes w16) y.0) y.1 × (length y.0 ≡ suc n) × AllByRecursion (λ c. c < 2 ^ depth) y.0) (ok_is made x b.2)
-    (rw flat_map-cons both, ap suc second.1, (ltb-true a.0.0 (2 ^ depth) first.2, second.2))
-
--- a row has at most 2,048 columns
-few_columns : (depth c : ℕ) → depth ≤ 11 → c < 2 ^ depth → c < 2 ^ 16
-few_columns depth c high lt = omega (arith, narrow depth high)
-
-pub columns_again : (depth total : ℕ) (cs : List ℕ) (rest : List ℕ) → depth ≤ 11 → AllByRecursion (λ c. c < 2 ^ depth) cs → columns_at (length cs) depth total (flat_map (to_be_bytes w16) cs ++ rest) ≡ Ok (cs, rest)
-unfolding columns_at
-columns_again depth total [] rest high are = refl
-columns_again depth total (c ∷ cs) rest high are =
-    let regrouped : flat_map (to_be_bytes w16) (c ∷ cs) ++ rest ≡ to_be_bytes w16 c ++ (flat_map (to_be_bytes w16) cs ++ rest) = ap (λ (x : List ℕ). x ++ rest) (flat_map-cons (to_be_bytes w16) c cs) ∙ append_assoc (to_be_bytes w16 c) (flat_map (to_be_bytes w16) cs) rest in
-    let first = tested_again w16 (2 ^ 16) wide16 (is_column depth) total c (flat_map (to_be_bytes w16) cs ++ rest) (few_columns depth c high are.0) (lt-ltb c (2 ^ depth) are.0) in
-    ap (columns_at (suc (length cs)) depth total) regrouped ∙ rw (first, columns_again depth total cs rest high are.1) refl
-
 abbrev after_form : ℕ → (version depth probes : ℕ) → ℕ × List ℕ → Result (Want × List ℕ) WireFault
-after_form total version depth probes form = columns_at probes depth total form.1 >>= λ keys. Ok (Search version (record { depth = depth; probes = probes }) keys.0, keys.1)
+after_form total version depth probes form = keys_at probes form.0 depth total form.1 >>= λ keys. Ok (Search version (record { depth = depth; probes = probes }) keys.0, keys.1)
 
 abbrev after_probes : ℕ → (version depth : ℕ) → ℕ × List ℕ → Result (Want × List ℕ) WireFault
 after_probes total version depth probes = byte_at is_form total probes.1 >>= λ form. after_form total version depth probes.0 form
@@ -60,14 +35,14 @@ abbrev after_version : ℕ → ℕ × List ℕ → Result (Want × List ℕ) Wir
 after_version total version = byte_at is_depth total version.1 >>= λ depth. after_depth total version.0 depth
 
 -- a search's fields
-abbrev pub search : ℕ → Dims → List ℕ → List ℕ
-search version shape keys = four version ++ shape.depth ∷ shape.probes ∷ 240 ∷ flat_map (to_be_bytes w16) keys
+abbrev pub search : ℕ → Dims → List PointKey → List ℕ
+search version shape keys = four version ++ shape.depth ∷ shape.probes ∷ form_of_keys keys ∷ flat_map bytes_of_key keys
 
 -- what was read is a search
 pub record TakesSearch (bytes : List ℕ) (x : Want × List ℕ) : Type 0 where
   pub version : ℕ
   pub shape : Dims
-  pub keys : List ℕ
+  pub keys : List PointKey
   pub is : x.0 ≡ Search version shape keys
   pub takes : Takes bytes (search version shape keys) x.1
   pub ranges : IsWant (Search version shape keys)
@@ -79,48 +54,50 @@ search_takes total bytes x fits e =
     let b = bind_ok (byte_at is_depth total a.0.1) (after_depth total a.0.0) x a.2 in
     let c = bind_ok (byte_at is_probes total b.0.1) (after_probes total a.0.0 b.0.0) x b.2 in
     let d = bind_ok (byte_at is_form total c.0.1) (after_form total a.0.0 b.0.0 c.0.0) x c.2 in
-    let k = bind_ok (columns_at c.0.0 b.0.0 total d.0.1) (λ keys. Ok (Search a.0.0 (record { depth = b.0.0; probes = c.0.0 }) keys.0, keys.1)) x d.2 in
+    let k = bind_ok (keys_at c.0.0 d.0.0 b.0.0 total d.0.1) (λ keys. Ok (Search a.0.0 (record { depth = b.0.0; probes = c.0.0 }) keys.0, keys.1)) x d.2 in
     let t0 = tested_takes w32 (2 ^ 32) wide32 is_count total bytes a.0.0 a.0.1 fits a.1 in
     let t1 = byte_takes is_depth total a.0.1 b.0.0 b.0.1 t0.0.rest_fits b.1 in
     let t2 = byte_takes is_probes total b.0.1 c.0.0 c.0.1 t1.0.rest_fits c.1 in
     let t3 = byte_takes is_form total c.0.1 d.0.0 d.0.1 t2.0.rest_fits d.1 in
-    let t4 = columns_take c.0.0 b.0.0 total d.0.1 k.0 t3.0.rest_fits k.1 in
-    let form : d.0.0 ≡ 240 = eqb-true d.0.0 240 t3.1 in
-    let p3 = Takes-then c.0.1 (d.0.0 ∷ []) d.0.1 (flat_map (to_be_bytes w16) k.0.0) k.0.1 t3.0 t4.0 in
-    let p2 = Takes-then b.0.1 (c.0.0 ∷ []) c.0.1 (d.0.0 ∷ flat_map (to_be_bytes w16) k.0.0) k.0.1 t2.0 p3 in
-    let p1 = Takes-then a.0.1 (b.0.0 ∷ []) b.0.1 (c.0.0 ∷ d.0.0 ∷ flat_map (to_be_bytes w16) k.0.0) k.0.1 t1.0 p2 in
-    let p0 = Takes-then bytes (four a.0.0) a.0.1 (b.0.0 ∷ c.0.0 ∷ d.0.0 ∷ flat_map (to_be_bytes w16) k.0.0) k.0.1 t0.0 p1 in
-    let shape : Dims = record { depth = b.0.0; probes = c.0.0 } in
-    let made : Want × List ℕ = (Search a.0.0 shape k.0.0, k.0.1) in
     let depth = depth_range b.0.0 t1.1 in
     let probes = probes_range c.0.0 t2.1 in
+    let forms = form_range d.0.0 t3.1 in
+    let t4 = keys_take c.0.0 d.0.0 b.0.0 total d.0.1 k.0 forms.0 forms.1 depth.0 depth.1 t3.0.rest_fits k.1 in
+    let form : form_of_keys k.0.0 ≡ d.0.0 = form_is d.0.0 b.0.0 k.0.0 (omega (arith, probes.0, t4.1)) t4.2 in
+    let p3 = Takes-then c.0.1 (d.0.0 ∷ []) d.0.1 (flat_map bytes_of_key k.0.0) k.0.1 t3.0 t4.0 in
+    let p2 = Takes-then b.0.1 (c.0.0 ∷ []) c.0.1 (d.0.0 ∷ flat_map bytes_of_key k.0.0) k.0.1 t2.0 p3 in
+    let p1 = Takes-then a.0.1 (b.0.0 ∷ []) b.0.1 (c.0.0 ∷ d.0.0 ∷ flat_map bytes_of_key k.0.0) k.0.1 t1.0 p2 in
+    let p0 = Takes-then bytes (four a.0.0) a.0.1 (b.0.0 ∷ c.0.0 ∷ d.0.0 ∷ flat_map bytes_of_key k.0.0) k.0.1 t0.0 p1 in
+    let shape : Dims = record { depth = b.0.0; probes = c.0.0 } in
+    let made : Want × List ℕ = (Search a.0.0 shape k.0.0, k.0.1) in
     let dims : IsDims shape = record { low = depth.0; high = depth.1; some = probes.0; few = probes.1 } in
-    let columns : AreColumns shape k.0.0 = record { many = t4.1; each = t4.2 } in
+    let keys : AreKeys shape k.0.0 = record { many = t4.1; each = subst (λ (f : ℕ). AllByRecursion (IsKeyOf f b.0.0) k.0.0) (sym form) t4.2 } in
     subst (TakesSearch bytes) (ok_is made x k.2) (record {
       version = a.0.0;
       shape = shape;
       keys = k.0.0;
       is = refl;
-      takes = subst (λ (f : ℕ). Takes bytes (four a.0.0 ++ b.0.0 ∷ c.0.0 ∷ f ∷ flat_map (to_be_bytes w16) k.0.0) k.0.1) form p0;
-      ranges = (leb-true a.0.0 1048576 t0.2, dims, columns);
+      takes = subst (λ (f : ℕ). Takes bytes (four a.0.0 ++ b.0.0 ∷ c.0.0 ∷ f ∷ flat_map bytes_of_key k.0.0) k.0.1) (sym form) p0;
+      ranges = (leb-true a.0.0 1048576 t0.2, dims, keys);
     })
 
 regroup : (a : List ℕ) (d p f : ℕ) (k rest : List ℕ) → (a ++ d ∷ p ∷ f ∷ k) ++ rest ≡ a ++ (d ∷ p ∷ f ∷ (k ++ rest))
 regroup a d p f k rest = append_assoc a (d ∷ p ∷ f ∷ k) rest
 
-pub search_again : (total version : ℕ) (shape : Dims) (keys rest : List ℕ) → IsWant (Search version shape keys) → search_at total (search version shape keys ++ rest) ≡ Ok (Search version shape keys, rest)
+pub search_again : (total version : ℕ) (shape : Dims) (keys : List PointKey) (rest : List ℕ) → IsWant (Search version shape keys) → search_at total (search version shape keys ++ rest) ≡ Ok (Search version shape keys, rest)
 unfolding search_at
 search_again total version shape keys rest is =
-    let r4 = flat_map (to_be_bytes w16) keys ++ rest in
-    let r3 = 240 ∷ r4 in
+    let form_byte = form_of_keys keys in
+    let r4 = flat_map bytes_of_key keys ++ rest in
+    let r3 = form_byte ∷ r4 in
     let r2 = shape.probes ∷ r3 in
     let r1 = shape.depth ∷ r2 in
     let first = tested_again w32 (2 ^ 32) wide32 is_count total version r1 (omega (arith, is.0)) (le-leb version 1048576 is.0) in
     let depth = byte_again is_depth total shape.depth r2 (depth_met shape.depth is.1.low is.1.high) in
     let probes = byte_again is_probes total shape.probes r3 (probes_met shape.probes is.1.some is.1.few) in
-    let form = byte_again is_form total 240 r4 refl in
-    let columns : columns_at shape.probes shape.depth total r4 ≡ Ok (keys, rest) = subst (λ (n : ℕ). columns_at n shape.depth total r4 ≡ Ok (keys, rest)) is.2.many (columns_again shape.depth total keys rest is.1.high is.2.each) in
-    ap (search_at total) (regroup (four version) shape.depth shape.probes 240 (flat_map (to_be_bytes w16) keys) rest) ∙ rw (first, depth, probes, form, columns) refl
+    let form = byte_again is_form total form_byte r4 (form_met keys) in
+    let read : keys_at shape.probes form_byte shape.depth total r4 ≡ Ok (keys, rest) = subst (λ (n : ℕ). keys_at n form_byte shape.depth total r4 ≡ Ok (keys, rest)) is.2.many (keys_again form_byte shape.depth total keys rest is.2.each) in
+    ap (search_at total) (regroup (four version) shape.depth shape.probes form_byte (flat_map bytes_of_key keys) rest) ∙ rw (first, depth, probes, form, read) refl
 
 -- ---- what is asked
 

@@ -1,5 +1,5 @@
 -- What a domain answers to Latest and Search, by its history.
-use Rattle.std.specs.Prelude.{ℕ, zero, suc, ◌≡◌, ◌+◌, ◌-◌, ◌&&◌, ◌^◌, nat_le, Bool, true, false, List, [], ◌∷◌, ◌⊎◌, length, map, replicate, if◌then◌else◌, Option, Some, None}
+use Rattle.std.specs.Prelude.{ℕ, ◌≡◌, ◌+◌, ◌-◌, ◌&&◌, nat_le, List, ◌⊎◌, length, map, if◌then◌else◌, Option, Some, None}
 use Rattle.dory_base.specs.Dims.{Dims, same_shape}
 use Rattle.dory_base.specs.declared.entry.Entry.{Entry}
 use Rattle.dory_base.specs.declared.found.Found.{Found}
@@ -7,6 +7,7 @@ use Rattle.dory_base.specs.declared.refusal.Refusal.TheVariants.{ShapeWrong, Unr
 use Rattle.dory_base.specs.History.{version_of}
 use Rattle.dory_base.specs.Table.{table_of, manifest_of}
 use Rattle.dory_base.specs.Sum.{sum_of}
+use Rattle.dory_dpf.specs.PointKey.{PointKey, shares_of}
 use Rattle.dory_wire.specs.declared.message.Want.{Want}
 use Rattle.dory_wire.specs.declared.message.Want.TheVariants.{Latest, Search, Which, Stage, Order, Follow}
 use Rattle.dory_wire.specs.declared.message.What.{What}
@@ -16,40 +17,21 @@ use Rattle.dory_wire.specs.declared.message.What.TheVariants.{At, Found as Finds
 abbrev pub oldest_of : ℕ → ℕ → ℕ
 oldest_of retained n = n + 1 - retained
 
--- so many bits, of which the one at this column is set
-abbrev pub only_bit : ℕ → ℕ → List Bool
-only_bit zero column = []
-only_bit (suc n) zero = true ∷ replicate n false
-only_bit (suc n) (suc column) = false ∷ only_bit n column
-
--- the shares of a key, for either domain: its column and no other
-abbrev pub shares_of : Dims → ℕ → List Bool
-shares_of shape column = only_bit (2 ^ shape.depth) column
-
--- what a version holds: its manifest, and a sum for each key
-abbrev pub found_of : Dims → List Entry → ℕ → List ℕ → Found
-found_of shape history number keys =
+-- what a version holds: its manifest, and for each key the sum that the key's shares select
+abbrev pub found_of : List Entry → ℕ → List PointKey → Found
+found_of history number keys =
     record {
       version = number;
       manifest = manifest_of (table_of (version_of number history));
-      sums = map (λ key. sum_of (table_of (version_of number history)) (shares_of shape key)) keys;
+      sums = map (λ key. sum_of (table_of (version_of number history)) (shares_of key)) keys;
     }
 
--- a request that reads: Latest and Search
-abbrev pub is_read : Want → Bool
-is_read Latest = true
-is_read (Search number asked keys) = true
-is_read (Which number) = false
-is_read (Stage e) = false
-is_read (Order name) = false
-is_read (Follow number name) = false
-
 -- the answer to a search of a folder with this shape, so many retained versions and this history
-abbrev pub search_of : Dims → ℕ → List Entry → ℕ → Dims → List ℕ → What
+abbrev pub search_of : Dims → ℕ → List Entry → ℕ → Dims → List PointKey → What
 search_of shape retained history number asked keys =
     if same_shape asked shape
     then (if nat_le (oldest_of retained (length history)) number && nat_le number (length history)
-    then Finds (found_of shape history number keys)
+    then Finds (found_of history number keys)
     else Refused (Unretained (oldest_of retained (length history)) (length history)))
     else Refused (ShapeWrong shape.depth shape.probes)
 

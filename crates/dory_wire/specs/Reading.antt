@@ -14,6 +14,8 @@ use Rattle.dory_base.specs.declared.found.Sum.{Sum}
 use Rattle.dory_base.specs.declared.found.Found.{Found}
 use Rattle.dory_base.specs.declared.refusal.Refusal.{Refusal}
 use Rattle.dory_base.specs.declared.refusal.Refusal.TheVariants.{NoFolder, ShapeWrong, Unretained, BadMember, Past, Clash, Unfinished, Unstaged, Taken, Gap, WrongRole, HistoryFull, NoEntry, NoMemory as OutOfMemory}
+use Rattle.dory_dpf.specs.declared.tree.Correction.{Correction}
+use Rattle.dory_dpf.specs.PointKey.{PointKey, levels_of}
 use Rattle.dory_wire.specs.declared.message.Want.{Want}
 use Rattle.dory_wire.specs.declared.message.Want.TheVariants.{Latest, Search, Which, Stage, Order, Follow}
 use Rattle.dory_wire.specs.declared.message.What.{What}
@@ -103,13 +105,21 @@ is_few n = nat_le n 8
 abbrev pub is_lines : ℕ → Bool
 is_lines n = nat_le n 4096
 
--- the form in which each probe is its column
+-- the form of keys: 1, or 2 for the shorter ones
 abbrev pub is_form : ℕ → Bool
-is_form n = n == 240
+is_form n = nat_le 1 n && nat_le n 2
 
--- a column within a row of this depth
-abbrev pub is_column : ℕ → ℕ → Bool
-is_column depth n = nat_lt n (2 ^ depth)
+-- the depth of a key, which is that of the shape
+abbrev pub is_depth_of : ℕ → ℕ → Bool
+is_depth_of depth n = n == depth
+
+-- the party of a key
+abbrev pub is_party : ℕ → Bool
+is_party n = nat_le n 1
+
+-- the control bits of a correction: the left one is the lowest, and the right one the next
+abbrev pub is_control : ℕ → Bool
+is_control n = nat_le n 3
 
 -- a slot from this one on
 abbrev pub is_slot : ℕ → ℕ → Bool
@@ -171,22 +181,55 @@ counted_at make total bytes = do
   length ← tested_at w32 is_count total bytes
   Ok (make length.0, length.1)
 
--- so many columns, each within a row of this depth
-unfoldable pub columns_at : ℕ → ℕ → ℕ → List ℕ → Result (List ℕ × List ℕ) WireFault
-columns_at zero depth total bytes = Ok ([], bytes)
-columns_at (suc n) depth total bytes = do
-  c ← tested_at w16 (is_column depth) total bytes
-  more ← columns_at n depth total c.1
-  Ok (c.0 ∷ more.0, more.1)
+-- a correction: its seed, then its control bits
+unfoldable pub correction_at : ℕ → List ℕ → Result (Correction × List ℕ) WireFault
+correction_at total bytes = do
+  seed ← field_at 16 total bytes
+  control ← byte_at is_control total seed.1
+  Ok (record { seed = seed.0; left_bit = control.0 % 2 == 1; right_bit = nat_le 2 control.0 }, control.1)
 
--- what a search asks: the version, the shape, the form in which each probe is its column, and the columns
+-- so many corrections
+unfoldable pub corrections_at : ℕ → ℕ → List ℕ → Result (List Correction × List ℕ) WireFault
+corrections_at zero total bytes = Ok ([], bytes)
+corrections_at (suc n) total bytes = do
+  first ← correction_at total bytes
+  more ← corrections_at n total first.1
+  Ok (first.0 ∷ more.0, more.1)
+
+-- the last word of a key, which a key of form 2 has
+unfoldable pub last_at : ℕ → ℕ → List ℕ → Result (Option (List ℕ) × List ℕ) WireFault
+last_at form total bytes =
+    if form == 1 then Ok (None, bytes)
+    else (do
+      word ← field_at 16 total bytes
+      Ok (Some word.0, word.1))
+
+-- a key of this form and depth: its depth, its party, its seed, the corrections of its levels, and its last word
+unfoldable pub key_at : ℕ → ℕ → ℕ → List ℕ → Result (PointKey × List ℕ) WireFault
+key_at form depth total bytes = do
+  same ← byte_at (is_depth_of depth) total bytes
+  party ← byte_at is_party total same.1
+  seed ← field_at 16 total party.1
+  corrections ← corrections_at (levels_of form depth) total seed.1
+  last ← last_at form total corrections.1
+  Ok (record { depth = depth; party = party.0; seed = seed.0; corrections = corrections.0; last = last.0 }, last.1)
+
+-- so many keys, each of this form and depth
+unfoldable pub keys_at : ℕ → ℕ → ℕ → ℕ → List ℕ → Result (List PointKey × List ℕ) WireFault
+keys_at zero form depth total bytes = Ok ([], bytes)
+keys_at (suc n) form depth total bytes = do
+  first ← key_at form depth total bytes
+  more ← keys_at n form depth total first.1
+  Ok (first.0 ∷ more.0, more.1)
+
+-- what a search asks: the version, the shape, the form of the keys, and a key for each probe
 unfoldable pub search_at : ℕ → List ℕ → Result (Want × List ℕ) WireFault
 search_at total bytes = do
   version ← tested_at w32 is_count total bytes
   depth ← byte_at is_depth total version.1
   probes ← byte_at is_probes total depth.1
   form ← byte_at is_form total probes.1
-  keys ← columns_at probes.0 depth.0 total form.1
+  keys ← keys_at probes.0 form.0 depth.0 total form.1
   Ok (Search version.0 (record { depth = depth.0; probes = probes.0 }) keys.0, keys.1)
 
 -- the lowest n bits of a number, the lowest first

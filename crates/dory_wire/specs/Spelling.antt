@@ -18,6 +18,8 @@ use Rattle.dory_base.specs.declared.found.Sum.{Sum}
 use Rattle.dory_base.specs.declared.found.Found.{Found}
 use Rattle.dory_base.specs.declared.refusal.Refusal.{Refusal}
 use Rattle.dory_base.specs.declared.refusal.Refusal.TheVariants.{NoFolder, ShapeWrong, Unretained, BadMember, Past, Clash, Unfinished, Unstaged, Taken, Gap, WrongRole, HistoryFull, NoEntry, NoMemory}
+use Rattle.dory_dpf.specs.PointKey.{PointKey, IsKeyOf, form_of}
+use Rattle.dory_dpf.specs.KeyBytes.{bytes_of_key}
 use Rattle.dory_wire.specs.declared.message.Want.{Want}
 use Rattle.dory_wire.specs.declared.message.Want.TheVariants.{Latest, Search, Which, Stage, Order, Follow}
 use Rattle.dory_wire.specs.declared.message.What.{What}
@@ -128,10 +130,15 @@ want_kind (Stage e) = 4
 want_kind (Order name) = 5
 want_kind (Follow number name) = 6
 
--- what is asked, after the folder. 240 is the form in which each probe is its column
+-- the form of a search's keys, which is that of the first
+abbrev pub form_of_keys : List PointKey → ℕ
+form_of_keys [] = 2
+form_of_keys (key ∷ keys) = form_of key
+
+-- what is asked, after the folder
 abbrev pub want : Want → List ℕ
 want Latest = []
-want (Search version shape keys) = four version ++ shape.depth ∷ shape.probes ∷ 240 ∷ flat_map (to_be_bytes w16) keys
+want (Search version shape keys) = four version ++ shape.depth ∷ shape.probes ∷ form_of_keys keys ∷ flat_map bytes_of_key keys
 want (Which number) = four number
 want (Stage e) = entry e
 want (Order name) = id name
@@ -202,10 +209,10 @@ pub record IsFound (f : Found) : Type 0 where
   pub probes : length f.sums ≤ 8
   pub sums : AllByRecursion (IsSum (length f.manifest)) f.sums
 
--- as many columns as probes, each within the row
-pub record AreColumns (shape : Dims) (keys : List ℕ) : Type 0 where
+-- as many keys as probes, all of one form and of the row's depth
+pub record AreKeys (shape : Dims) (keys : List PointKey) : Type 0 where
   pub many : length keys ≡ shape.probes
-  pub each : AllByRecursion (λ c. c < 2 ^ shape.depth) keys
+  pub each : AllByRecursion (IsKeyOf (form_of_keys keys) shape.depth) keys
 
 -- the ranges of a post: a row and tags of its own shape, each tag of sixteen bytes
 pub record IsPost (shape : Dims) (row : List Bool) (tags : List ℕ) : Type 0 where
@@ -227,7 +234,7 @@ pub record IsEntry (e : Entry) : Type 0 where
 -- the ranges of what is asked
 abbrev pub IsWant : Want → Type 0
 IsWant Latest = Unit {0}
-IsWant (Search version shape keys) = (version ≤ 1048576) × IsDims shape × AreColumns shape keys
+IsWant (Search version shape keys) = (version ≤ 1048576) × IsDims shape × AreKeys shape keys
 IsWant (Which number) = IsNumber number
 IsWant (Stage e) = IsEntry e
 IsWant (Order name) = IsId name

@@ -1,5 +1,5 @@
 -- What a folder answers to each request, and what it is afterwards.
-use Rattle.std.specs.Prelude.{ℕ, ◌≡◌, ⊤, ◌⊎◌, List, length, Option, Some, None, Result, Ok, Err}
+use Rattle.std.specs.Prelude.{ℕ, ◌≡◌, ⊤, ◌⊎◌, length, Option, Some, None, Result, Ok, Err}
 use Rattle.dory_base.specs.declared.ids.UpdateId.{UpdateId}
 use Rattle.dory_base.specs.declared.plan.StagePlan.{StagePlan}
 use Rattle.dory_base.specs.declared.plan.StagePlan.TheVariants.{New, Same, Done}

@@ -1,37 +1,19 @@
 //! Readers of what a request asks.
-ghost use Rattle.std.specs.Prelude.{◌≡◌, ◌≤◌};
+ghost use Rattle.std.specs.Prelude.{◌≡◌};
 ghost use Rattle.dory_wire.specs.declared.message.Want.TheVariants.{Follow, Order};
-ghost use Rattle.dory_wire.specs.Reading.{GivesBy, Gives, columns_at as read_columns, named_at, numbered_at, request_at as read_request, request_of, search_at as read_search, stage_at as read_stage, want_at as read_want, which_at as read_which};
+ghost use Rattle.dory_wire.specs.Reading.{GivesBy, Gives, named_at, numbered_at, request_at as read_request, request_of, search_at as read_search, stage_at as read_stage, want_at as read_want, which_at as read_which};
 
 use crate::fault::WireFault;
 use crate::field::{
-    ask_at, column_at, count_at, depth_at, entry_number_at, form_at, id_at, probes_at, shape_of,
-    trailing, u32_at,
+    ask_at, count_at, depth_at, entry_number_at, form_at, id_at, probes_at, shape_of, trailing,
+    u32_at,
 };
 use crate::message::{Request, Want};
+use crate::probe_keys::keys_at;
 use crate::staged::entry_at;
-use dory_base::{FolderId, Keys};
+use dory_base::FolderId;
+use dory_dpf::Keys;
 use std::alloc::Global;
-
-fn columns_at(
-    alloc: Global,
-    total: usize,
-    count: u8,
-    depth: u8,
-    bytes: &[u8],
-) -> Result<(Vec<u16>, &[u8]), WireFault>
-    requires { depth ≤ 11 }
-    ensures { GivesBy (λ x. (x.0.items, x.1.now)) result (read_columns count depth total bytes.now) }
-{
-    let mut columns = Vec::new(alloc);
-    let mut rest = bytes;
-    for _ in 0..count {
-        let (column, after) = column_at(total, depth, rest)?;
-        columns.push(column)?;
-        rest = after;
-    }
-    Ok((columns, rest))
-}
 
 #[tactic(auto, unfolding(crate::specs::Reading::search_at))]
 fn search_at(alloc: Global, total: usize, bytes: &[u8]) -> Result<(Want, &[u8]), WireFault>
@@ -40,12 +22,12 @@ fn search_at(alloc: Global, total: usize, bytes: &[u8]) -> Result<(Want, &[u8]),
     let (version, rest) = count_at(total, bytes)?;
     let (depth, rest) = depth_at(total, rest)?;
     let (probes, rest) = probes_at(total, rest)?;
-    let (_, rest) = form_at(total, rest)?;
-    let (columns, rest) = columns_at(alloc, total, probes, depth, rest)?;
+    let (form, rest) = form_at(total, rest)?;
+    let (keys, rest) = keys_at(alloc, total, probes, form, depth, rest)?;
     let want = Want::Search {
         version,
         shape: shape_of(depth, probes),
-        keys: Keys::of(columns),
+        keys: Keys::of(keys),
     };
     Ok((want, rest))
 }

@@ -4,7 +4,7 @@ ghost use Rattle.std.specs.Prelude.{◌≡◌, ◌≤◌, ◌<◌, ◌-◌, ◌^
 ghost use Rattle.std.specs.Int.{w16, w32, w64, from_be_bytes};
 ghost use Rattle.dory_base.specs.TagBytes.{tag_number};
 ghost use Rattle.dory_wire.specs.declared.fault.WireFault.TheVariants.{Body, Trailing};
-ghost use Rattle.dory_wire.specs.Reading.{GivesBy, ask_at as read_ask, byte_at, field_at, id_at as read_id, is_change, is_code, is_column, is_count, is_depth, is_few, is_form, is_lines, is_number, is_probes, is_role, is_slot, number_at, place, tested_at};
+ghost use Rattle.dory_wire.specs.Reading.{GivesBy, ask_at as read_ask, byte_at, field_at, id_at as read_id, is_change, is_code, is_count, is_depth, is_few, is_form, is_lines, is_number, is_probes, is_role, is_slot, number_at, place, tested_at};
 
 use crate::fault::WireFault;
 use dory_base::{AskId, MemberId, Shape, Tag, UpdateId};
@@ -147,20 +147,6 @@ pub fn slot_at(total: usize, least: u16, bytes: &[u8]) -> Result<(u16, &[u8]), W
     }
 }
 
-/// A column of a row of this depth.
-#[tactic(auto, unfolding(crate::specs::Reading::tested_at))]
-pub fn column_at(total: usize, depth: u8, bytes: &[u8]) -> Result<(u16, &[u8]), WireFault>
-    requires { depth ≤ 11 }
-    ensures { GivesBy (λ x. (x.0, x.1.now)) result (tested_at w16 (is_column depth) total bytes.now) }
-{
-    let (n, rest) = u16_at(total, bytes)?;
-    if n < columns(depth) {
-        Ok((n, rest))
-    } else {
-        Err(fault_at(total, bytes))
-    }
-}
-
 /// How many columns a row of this depth has.
 #[tactic(auto, using(crate::proofs::Ranges::narrow))]
 pub fn columns(depth: u8) -> u16
@@ -224,15 +210,16 @@ pub fn few_at(total: usize, bytes: &[u8]) -> Result<(u8, &[u8]), WireFault>
     }
 }
 
-/// The form in which each probe is its column.
+/// The form of keys.
 #[tactic(auto, unfolding(crate::specs::Reading::byte_at))]
 pub fn form_at(total: usize, bytes: &[u8]) -> Result<(u8, &[u8]), WireFault>
-    ensures { GivesBy (λ x. (x.0, x.1.now)) result (byte_at is_form total bytes.now) }
+    ensures value { GivesBy (λ x. (x.0, x.1.now)) result (byte_at is_form total bytes.now) }
+    ensures range { IfOk result (λ x. (1 ≤ x.0) × (x.0 ≤ 2)) }
 {
     match bytes {
         [] => Err(fault_at(total, bytes)),
         [b, rest @ ..] => {
-            if *b == 0xf0 {
+            if *b == 1 || *b == 2 {
                 Ok((*b, rest))
             } else {
                 Err(fault_at(total, bytes))

@@ -11,6 +11,7 @@ mod frame;
 mod framer;
 mod message;
 mod packed;
+mod probe_keys;
 mod refused;
 mod spell;
 mod staged;

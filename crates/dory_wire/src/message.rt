@@ -1,15 +1,13 @@
 //! What a member asks, and what a domain answers.
-ghost use Rattle.std.specs.Prelude.{◌≡◌};
-ghost use Rattle.dory_wire.specs.Read.{is_read};
-
-use dory_base::{AskId, Entry, FolderId, Found, Keys, Refusal, Shape, UpdateId};
+use dory_base::{AskId, Entry, FolderId, Found, Refusal, Shape, UpdateId};
+use dory_dpf::Keys;
 
 /// What is asked of a folder.
 #[derive(Debug, Drop)]
 pub enum Want {
     /// The length of the history.
     Latest,
-    /// What a version holds, with a sum for each key.
+    /// What a version holds, with a sum for each key. There is a key for each probe, and all are of one form.
     Search {
         version: u32,
         shape: Shape,
@@ -32,22 +30,6 @@ pub enum Want {
         number: u32,
         id: UpdateId,
     },
-}
-
-impl Want {
-    /// Whether it only reads.
-    pub fn is_read(&self) -> bool
-        ensures { result ≡ is_read self.now }
-    {
-        match self {
-            Want::Latest => true,
-            Want::Search { .. } => true,
-            Want::Which { .. } => false,
-            Want::Stage { .. } => false,
-            Want::Order { .. } => false,
-            Want::Follow { .. } => false,
-        }
-    }
 }
 
 #[derive(Debug, Drop)]

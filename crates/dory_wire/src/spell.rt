@@ -3,12 +3,14 @@ ghost use Rattle.std.specs.Prelude.{◌≡◌, ◌++◌, ◌∷◌, ◌<◌, ◌
 ghost use Rattle.std.specs.List.{flat_map};
 ghost use Rattle.std.specs.Int.{w16, to_be_bytes};
 ghost use Rattle.dory_base.specs.TagBytes.{tag_bytes};
-ghost use Rattle.dory_wire.specs.Spelling.{ask, change, entry, four, found, id, line, packed, refusal, refusal_code, refusal_fields, role_byte, sum, want, want_kind, what, what_kind, IsFound, IsWhat};
+ghost use Rattle.dory_dpf.specs.KeyBytes.{bytes_of_key};
+ghost use Rattle.dory_wire.specs.Spelling.{ask, change, entry, form_of_keys, four, found, id, line, packed, refusal, refusal_code, refusal_fields, role_byte, sum, want, want_kind, what, what_kind, IsFound, IsWhat};
 
 use crate::message::{Want, What};
 use dory_base::{
     AskId, Bits, Change, Entry, Found, NoMemory, Place, Refusal, Side, Sum, Tag, UpdateId,
 };
+use dory_dpf::Key;
 
 pub fn put_u32(out: &mut Vec<u8>, n: u32) -> Result<(), NoMemory>
     ensures { OnOk result (out.new.items ≡ out.old.items ++ four n) }
@@ -33,13 +35,23 @@ fn put_id(out: &mut Vec<u8>, name: &UpdateId) -> Result<(), NoMemory>
     Ok(())
 }
 
-fn put_columns(out: &mut Vec<u8>, columns: &[u16]) -> Result<(), NoMemory>
-    ensures { OnOk result (out.new.items ≡ out.old.items ++ flat_map (to_be_bytes w16) columns.now) }
+fn put_keys(out: &mut Vec<u8>, keys: &[Key]) -> Result<(), NoMemory>
+    ensures { OnOk result (out.new.items ≡ out.old.items ++ flat_map bytes_of_key keys.now) }
 {
-    for column in columns {
-        out.extend_from_slice(&column.to_be_bytes())?;
+    for key in keys {
+        key.put(out)?;
     }
     Ok(())
+}
+
+/// The form of these keys, which is that of the first.
+fn form_of(keys: &[Key]) -> u8
+    ensures { result ≡ form_of_keys keys.now }
+{
+    match keys {
+        [] => 2,
+        [key, ..] => key.form(),
+    }
 }
 
 fn put_tags(out: &mut Vec<u8>, tags: &[Tag]) -> Result<(), NoMemory>
@@ -94,8 +106,8 @@ pub fn put_want(out: &mut Vec<u8>, wanted: &Want) -> Result<(), NoMemory>
             put_u32(out, *version)?;
             out.push(shape.depth())?;
             out.push(shape.probes())?;
-            out.push(0xf0)?;
-            put_columns(out, keys.items())
+            out.push(form_of(keys.items()))?;
+            put_keys(out, keys.items())
         }
         Want::Which { number } => put_u32(out, *number),
         Want::Stage { entry } => put_entry(out, entry),

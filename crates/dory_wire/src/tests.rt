@@ -1,11 +1,14 @@
 //! Messages whose bytes are known, and the first fault of bytes that are no message.
-ghost use Rattle.std.specs.Prelude.{◌≤◌};
+ghost use Rattle.std.specs.Prelude.{◌≤◌, IfOk, if◌then◌else◌};
+ghost use Rattle.dory_dpf.specs.PointKey.{IsKeyOf};
 ghost use Rattle.dory_wire.specs.Spelling.{IsId, IsRefusal, IsReply, IsRequest};
 
 use super::*;
+use crate::field::shape_of;
 use dory_base::{
-    AskId, Change, DocId, Entry, FolderId, Keys, MemberId, NoMemory, Refusal, Shape, Side, UpdateId,
+    AskId, Change, DocId, Entry, FolderId, MemberId, NoMemory, Refusal, Shape, Side, UpdateId,
 };
+use dory_dpf::{Key, Keys, gen_long, gen_short};
 use std::alloc::Global;
 use std::test::*;
 
@@ -114,31 +117,58 @@ fn at_5_is_these_bytes_both_ways(rt: HostRuntime) -> Result<(), Fail> {
     Ok(())
 }
 
-#[test]
-fn a_search_is_read_back(rt: HostRuntime) -> Result<(), Fail> {
-    let columns = vec![in rt.alloc(); 7, 255].ok().ok_or("memory")?;
-    let request = Request {
+// The lead's key for a column of a row of depth 8, whose trees begin with zeros.
+fn key(short: bool, column: u8) -> Key
+    ensures { IsKeyOf (if short then 2 else 1) 8 result }
+{
+    let shape = shape_of(8, 2);
+    let (lead, _) = if short {
+        gen_short(shape, column as u16, [0; 16], [0; 16])
+    } else {
+        gen_long(shape, column as u16, [0; 16], [0; 16])
+    };
+    let _depth = lead.depth();
+    lead
+}
+
+// A search at version 9 for columns 7 and 255.
+fn search(alloc: Global, short: bool) -> Result<Request, NoMemory>
+    ensures { IfOk result IsRequest }
+{
+    let mut keys = Vec::new(alloc);
+    keys.push(key(short, 7))?;
+    keys.push(key(short, 255))?;
+    Ok(Request {
         ask: ask(),
         folder: FolderId(1),
         want: Want::Search {
             version: 9,
-            shape: Shape::new(8, 2).ok_or("a shape")?,
-            keys: Keys::of(columns),
+            shape: shape_of(8, 2),
+            keys: Keys::of(keys),
         },
-    };
-    let frame = encode_request(rt.alloc(), &request).ok().ok_or("a frame")?;
-    assert_eq!(rt;
-        frame.get(25..),
-        Some([0, 0, 0, 9, 8, 2, 0xf0, 0, 7, 0, 255].as_slice())
-    );
-    let message = whole_message(&frame).ok_or("a message")?;
-    let read = decode_request(rt.alloc(), message).ok().ok_or("a request")?;
-    match read.want {
-        Want::Search { version, keys, .. } => {
-            assert_eq!(rt; version, 9);
-            assert_eq!(rt; keys.items(), [7, 255].as_slice());
+    })
+}
+
+#[test]
+fn a_search_is_read_back_in_both_forms(rt: HostRuntime) -> Result<(), Fail> {
+    for (short, form, len) in [(true, 2, 130), (false, 1, 336)] {
+        let request = search(rt.alloc(), short).ok().ok_or("memory")?;
+        let frame = encode_request(rt.alloc(), &request).ok().ok_or("a frame")?;
+        let message = whole_message(&frame).ok_or("a message")?;
+        assert_eq!(rt; message.len(), len);
+        assert_eq!(rt;
+            message.get(21..28),
+            Some([0, 0, 0, 9, 8, 2, form].as_slice())
+        );
+        let read = decode_request(rt.alloc(), message).ok().ok_or("a request")?;
+        match read.want {
+            Want::Search { version, keys, .. } => {
+                assert_eq!(rt; version, 9);
+                assert!(rt; keys.items().iter().all(|key| key.form() == form));
+                assert!(rt; keys.items().len() == 2);
+            }
+            _ => return Err("a search is no other request".into()),
         }
-        _ => return Err("a search is no other request".into()),
     }
     Ok(())
 }
@@ -192,6 +222,51 @@ fn the_first_fault_is_named(rt: HostRuntime) -> Result<(), Fail> {
             Err(WireFault::Body { at: 0 })
         )
     );
+    Ok(())
+}
+
+#[test]
+fn a_fault_in_a_key_is_named_at_the_part_that_has_it(rt: HostRuntime) -> Result<(), Fail> {
+    let request = search(rt.alloc(), true).ok().ok_or("memory")?;
+    let frame = encode_request(rt.alloc(), &request).ok().ok_or("a frame")?;
+    let message = whole_message(&frame).ok_or("a message")?;
+    // The second key begins at 79, its correction at 97, and its last word at 114.
+    for (place, byte) in [
+        (27, 0xf1),
+        (27, 3),
+        (28, 9),
+        (29, 2),
+        (62, 4),
+        (79, 11),
+        (80, 128),
+        (113, 255),
+    ] {
+        let mut bent = message.to_vec(rt.alloc()).ok().ok_or("memory")?;
+        if let Some(b) = bent.get_mut(place) {
+            *b = byte;
+        }
+        let fault = decode_request(rt.alloc(), &bent).err().ok_or("a fault")?;
+        assert!(rt;
+            matches!(fault, WireFault::Body { at } if at == place),
+            "at {place}"
+        );
+    }
+    for (len, place) in [
+        (28, 28),
+        (29, 29),
+        (45, 30),
+        (61, 46),
+        (62, 62),
+        (78, 63),
+        (129, 114),
+    ] {
+        let cut = message.get(..len).ok_or("a front")?;
+        let fault = decode_request(rt.alloc(), cut).err().ok_or("a fault")?;
+        assert!(rt;
+            matches!(fault, WireFault::Body { at } if at == place),
+            "cut to {len}"
+        );
+    }
     Ok(())
 }
 
