@@ -1,5 +1,4 @@
 use Rattle.std.proofs.Common.{rules, arith, length, drop, ◌-◌, take_all, length-drop}
-use Rattle.std.proofs.lemmas.Grind.{common_steps}
 use Rattle.dory_io.proofs.WriteLemmas.{appends_more}
 use Rattle.dory_io.proofs.output.write_all.Goals as goal
 
