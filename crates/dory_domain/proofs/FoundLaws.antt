@@ -15,7 +15,8 @@ use Rattle.dory_base.proofs.StepLaws.{history_is}
 use Rattle.dory_base.specs.Table.{Slots, has_doc, placed, emptied, changed, step, live_from, live_of, place_of, manifest_of}
 use Rattle.dory_base.specs.TableMeaning.{Kept, IsKept, StandsFor}
 use Rattle.dory_base.proofs.TableLaws.{manifest_rises, length-live}
-use Rattle.dory_wire.specs.Spelling.{IsLine, IsSum, IsFound, AreColumns}
+use Rattle.dory_dpf.specs.PointKey.{PointKey}
+use Rattle.dory_wire.specs.Spelling.{IsLine, IsSum, IsFound, AreKeys}
 use Rattle.dory_domain.specs.Held.{IsNamed}
 use Rattle.dory_domain.proofs.Lists.{all_more, all_set, all_take}
 
@@ -72,12 +73,12 @@ manifest_lines s number table is named stands kept =
 few_lines : (table : Kept) → IsKept table → length (manifest_of table.slots) ≤ 4096
 few_lines table kept = omega (arith, kept.few, length-live 0 table.slots, length-map (live_of table.slots) place_of)
 
-pub found_range : (s : State) (number : ℕ) (table : Kept) (manifest : List Place) (keys : List ℕ) (f : ℕ → Sum) (sums : List Sum)
+pub found_range : (s : State) (number : ℕ) (table : Kept) (manifest : List Place) (keys : List PointKey) (f : PointKey → Sum) (sums : List Sum)
     → IsState s → AllByRecursion IsNamed s.history → number ≤ length s.history
     → StandsFor table (version_of number s.history) → IsKept table → table.shape ≡ s.shape
-    → manifest ≡ manifest_of table.slots → AreColumns s.shape keys → sums ≡ map f keys → AllByRecursion (IsSum (length (manifest_of table.slots))) sums
+    → manifest ≡ manifest_of table.slots → AreKeys s.shape keys → sums ≡ map f keys → AllByRecursion (IsSum (length (manifest_of table.slots))) sums
     → IsFound (record { version = number; manifest = manifest; sums = sums })
-found_range s number table manifest keys f sums is named low stands kept same lines columns summed each =
+found_range s number table manifest keys f sums is named low stands kept same lines are summed each =
     let probes : table.shape.probes ≡ s.shape.probes = ap (λ (d : Dims). d.probes) same in
     let many : length sums ≡ length keys = ap (length {A = Sum}) summed ∙ length-map keys f in
     let whole : IsFound (record { version = number; manifest = manifest_of table.slots; sums = sums }) = record {
@@ -85,7 +86,7 @@ found_range s number table manifest keys f sums is named low stands kept same li
       lines = manifest_lines s number table is named stands kept;
       rising = manifest_rises table.slots;
       many = few_lines table kept;
-      probes = omega (arith, kept.dims.few, columns.many);
+      probes = omega (arith, kept.dims.few, are.many);
       sums = each;
     } in
     subst (λ (ps : List Place). IsFound (record { version = number; manifest = ps; sums = sums })) (sym lines) whole

@@ -1,7 +1,6 @@
 pub mod Ones
 pub mod Digits
 pub mod Lists
-pub mod Selectors
 pub mod HeldLaws
 pub mod FoundLaws
 pub mod ConfigLaws

@@ -11,7 +11,7 @@ ghost use Rattle.dory_base.specs.TableMeaning.{StandsFor};
 ghost use Rattle.dory_base.specs.declared.refusal.Refusal.TheVariants.{NoMemory as OutOfMemory};
 ghost use Rattle.dory_wire.specs.declared.message.What.TheVariants.{Refused};
 ghost use Rattle.dory_wire.specs.Read.{found_of, search_of, IsReadAs};
-ghost use Rattle.dory_wire.specs.Spelling.{AreColumns, IsEntry, IsId, IsNumber, IsWant, IsWhat, IsFound};
+ghost use Rattle.dory_wire.specs.Spelling.{AreKeys, IsEntry, IsId, IsNumber, IsWant, IsWhat, IsFound};
 ghost use Rattle.dory_wire.specs.StepReply.{Steps};
 ghost use Rattle.dory_domain.specs.Held.{IsHeld, opened, in_state};
 ghost use Rattle.dory_log.specs.Spared.{MayCommit};
@@ -19,9 +19,8 @@ ghost use Rattle.dory_log.specs.Spared.{MayCommit};
 use crate::config::FolderConfig;
 use crate::probes::sums;
 use crate::updates::Updates;
-use dory_base::{
-    Entry, FolderId, Found, Keys, NoMemory, Refusal, Shape, Side, SlotTable, UpdateId,
-};
+use dory_base::{Entry, FolderId, Found, NoMemory, Refusal, Shape, Side, SlotTable, UpdateId};
+use dory_dpf::Keys;
 use dory_log::{FolderLog, Plan, StagePlan};
 use dory_table::Table;
 use dory_wire::{Want, What};
@@ -124,7 +123,7 @@ impl Folder {
 
     /// The answer to a search.
     fn search(&self, alloc: Global, version: u32, asked: Shape, keys: &Keys) -> What
-        requires { AreColumns asked keys.now }
+        requires { AreKeys asked keys.now }
         ensures value { IsReadAs (search_of self.now.state.shape self.now.state.retained self.now.state.history version asked keys.now) result }
         ensures range { IsWhat result }
     {
@@ -149,8 +148,8 @@ impl Folder {
     /// What a version holds, with a sum for each key.
     fn found(&self, alloc: Global, version: u32, keys: &Keys) -> Result<Found, NoMemory>
         requires version { version ≤ length self.now.state.history }
-        requires columns { AreColumns self.now.state.shape keys.now }
-        ensures value { IfOk result (λ f. f ≡ found_of self.now.state.shape self.now.state.history version keys.now) }
+        requires keys { AreKeys self.now.state.shape keys.now }
+        ensures value { IfOk result (λ f. f ≡ found_of self.now.state.history version keys.now) }
         ensures range { IfOk result IsFound }
     {
         let table = self.version(alloc, version)?;

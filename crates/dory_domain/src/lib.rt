@@ -7,6 +7,7 @@ mod folder;
 mod folders;
 mod parity;
 mod probes;
+mod setup;
 mod sums;
 #[cfg(test)]
 mod tests;
@@ -16,4 +17,5 @@ pub use config::{ConfigFault, FolderConfig, OpenFault};
 pub use domain_core::DomainCore;
 pub use folder::Folder;
 pub use folders::Folders;
+pub use setup::{Config, FolderList};
 pub use sums::sum;

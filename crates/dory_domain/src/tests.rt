@@ -1,13 +1,15 @@
 //! A domain by worked examples: sums over two rows, lists of folders, and reads of a short history.
-ghost use Rattle.std.specs.Prelude.{◌≡◌, ◌≤◌, ◌+◌, length, IfOk};
+ghost use Rattle.std.specs.Prelude.{◌≡◌, ◌≤◌, ◌+◌, length, IfOk, if◌then◌else◌};
 ghost use Rattle.dory_base.specs.History.{IsChangeOf};
+ghost use Rattle.dory_dpf.specs.PointKey.{IsKeyOf};
 ghost use Rattle.dory_wire.specs.Spelling.{IsEntry, IsWant};
 
 use crate::{ConfigFault, DomainCore, FolderConfig, OpenFault, sum};
 use dory_base::{
-    AskId, Bits, Change, DocId, Entry, FolderId, Keys, MemberId, NoMemory, Refusal, Shape, Side,
+    AskId, Bits, Change, DocId, Entry, FolderId, MemberId, NoMemory, Refusal, Shape, Side,
     SlotTable, Tag, Tags, UpdateId,
 };
+use dory_dpf::{Key, Keys, gen_long, gen_short};
 use dory_table::Table;
 use dory_wire::{Request, Want, What};
 use std::alloc::Global;
@@ -181,19 +183,98 @@ fn core_of(alloc: Global, shape: Shape, retained: u8, count: u8) -> Result<Domai
     Ok(core)
 }
 
-// A search of a version for two columns.
+// How a key is made: for one party or the other, in form 2 or in form 1.
+#[derive(Clone, Copy)]
+struct Making {
+    follow: bool,
+    short: bool,
+}
+
+// A key for a column, whose tree begins with zeros.
+fn key(shape: Shape, making: Making, column: u8) -> Key
+    requires low { 8 ≤ shape.depth }
+    ensures { IsKeyOf (if making.short then 2 else 1) shape.depth result }
+{
+    let (lead, follow) = if making.short {
+        gen_short(shape, column as u16, [0; 16], [0; 16])
+    } else {
+        gen_long(shape, column as u16, [0; 16], [0; 16])
+    };
+    let key = if making.follow { follow } else { lead };
+    let _depth = key.depth();
+    key
+}
+
+// A search of a version for columns 0 and 7.
+fn search_by(alloc: Global, version: u8, shape: Shape, making: Making) -> Result<Want, NoMemory>
+    requires low { 8 ≤ shape.depth }
+    requires high { shape.depth ≤ 11 }
+    requires probes { shape.probes ≡ 2 }
+    ensures { IfOk result IsWant }
+{
+    let mut keys = Vec::new(alloc);
+    keys.push(key(shape, making, 0))?;
+    keys.push(key(shape, making, 7))?;
+    Ok(Want::Search {
+        version: version as u32,
+        shape,
+        keys: Keys::of(keys),
+    })
+}
+
+// The same as the client asks the lead.
 fn search(alloc: Global, version: u8, shape: Shape) -> Result<Want, NoMemory>
     requires low { 8 ≤ shape.depth }
     requires high { shape.depth ≤ 11 }
     requires probes { shape.probes ≡ 2 }
     ensures { IfOk result IsWant }
 {
-    let columns = [0u16, 255];
-    Ok(Want::Search {
-        version: version as u32,
-        shape,
-        keys: Keys::of(columns.as_slice().to_vec(alloc)?),
-    })
+    let making = Making {
+        follow: false,
+        short: true,
+    };
+    search_by(alloc, version, shape, making)
+}
+
+// The first line's bit at each probe, where something was found.
+fn first_bits(what: &What) -> Option<(bool, bool)> {
+    let What::Found { found } = what else {
+        return None;
+    };
+    match found.sums.items() {
+        [first, second] if first.bits.len() > 0 && second.bits.len() > 0 => {
+            Some((first.bits.get(0), second.bits.get(0)))
+        }
+        _ => None,
+    }
+}
+
+#[test]
+fn the_shares_of_both_forms_add_up_to_the_cells(rt: HostRuntime) -> Result<(), NoMemory> {
+    let alloc = rt.alloc();
+    let shape = Shape::new(8, 2).expect(&rt, "a shape in range");
+    let mut core = core_of(alloc, shape, 2, 1)?;
+    for short in [true, false] {
+        let lead = Making {
+            follow: false,
+            short,
+        };
+        let follow = Making {
+            follow: true,
+            short,
+        };
+        let lead = answer(alloc, &mut core, 1, search_by(alloc, 1, shape, lead)?);
+        let follow = answer(alloc, &mut core, 1, search_by(alloc, 1, shape, follow)?);
+        let (a, b) = first_bits(&lead).expect(&rt, "two sums over a line");
+        let (c, d) = first_bits(&follow).expect(&rt, "two sums over a line");
+        // The row is set at column 0 and not at column 7.
+        assert_eq!(rt; (a ^ c, b ^ d), (true, false));
+        assert_eq!(rt;
+            (outcome(&lead), outcome(&follow)),
+            ((true, 1, 1), (true, 1, 1))
+        );
+    }
+    Ok(())
 }
 
 fn is_at(what: &What, want: u32) -> bool {
