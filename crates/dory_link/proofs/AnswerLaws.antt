@@ -7,6 +7,8 @@ use Rattle.dory_base.specs.History.{IsPrefix}
 use Rattle.dory_base.specs.Log.{staged_as}
 use Rattle.dory_base.specs.Step.{Event, State, log_of, after_maybe, state_appended}
 use Rattle.dory_base.specs.Step.Event.{Staged, Appended}
+use Rattle.dory_base.proofs.StepLaws.{history_is}
+use Rattle.dory_dpf.specs.PointKey.{PointKey}
 use Rattle.dory_wire.specs.declared.message.Request.{Request}
 use Rattle.dory_wire.specs.declared.message.Reply.{Reply}
 use Rattle.dory_wire.specs.declared.message.Want.{Want}
@@ -108,7 +110,7 @@ found_ran_out (Staging id) what finds is = absurd finds
 found_ran_out (Committed number id) what finds is = absurd finds
 found_ran_out (Refused code) what finds is = absurd finds
 
-search_read : (s next : State) (number : ℕ) (asked : Dims) (keys : List ℕ) (what : What) → Steps s (Search number asked keys) what next → IsReadOf (read_of s.shape s.retained s.history (Search number asked keys)) what
+search_read : (s next : State) (number : ℕ) (asked : Dims) (keys : List PointKey) (what : What) → Steps s (Search number asked keys) what next → IsReadOf (read_of s.shape s.retained s.history (Search number asked keys)) what
 search_read s next number asked keys what (inl done) = read_answer (answer_of s (Search number asked keys)) what done.answer
 search_read s next number asked keys what (inr out) = by out.takes
   where
@@ -136,13 +138,21 @@ step_once f next want what held steps = (
   },
 )
 
-read_once : (f : Held) (next : State) (want : Want) (what : What) → Steps f.state want what next → IsReadOf (read_of f.state.shape f.state.retained f.state.history want) what
+read_once : (f : Held) (next : State) (want : Want) (what : What) → IsHeld f → Steps f.state want what next → IsReadOf (read_of f.state.shape f.state.retained f.state.history want) what
     → (h : List Entry) × IsReadAt (told_of f) (told_of (in_state next f)) want what h
-read_once f next want what steps value = (f.state.history, record { later = itself f.state.history; earlier = step_grows f.state next want what steps; value = value })
+read_once f next want what held steps value = (
+  f.state.history,
+  record {
+    later = itself f.state.history;
+    earlier = step_grows f.state next want what steps;
+    is = history_is f.state held.state;
+    value = value;
+  },
+)
 
 answers_to : (f : Held) (next : State) (want : Want) (what : What) → IsHeld f → Steps f.state want what next → AnswersTo (told_of f) (told_of (in_state next f)) want what
-answers_to f next Latest what held steps = read_once f next Latest what steps (latest_read f.state next what steps)
-answers_to f next (Search number asked keys) what held steps = read_once f next (Search number asked keys) what steps (search_read f.state next number asked keys what steps)
+answers_to f next Latest what held steps = read_once f next Latest what held steps (latest_read f.state next what steps)
+answers_to f next (Search number asked keys) what held steps = read_once f next (Search number asked keys) what held steps (search_read f.state next number asked keys what steps)
 answers_to f next (Which number) what held steps = step_once f next (Which number) what held steps
 answers_to f next (Stage e) what held steps = step_once f next (Stage e) what held steps
 answers_to f next (Order id) what held steps = step_once f next (Order id) what held steps

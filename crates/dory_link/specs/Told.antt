@@ -4,7 +4,7 @@ use Rattle.std.specs.declared.alloc.Global.{Global}
 use Rattle.dory_base.specs.Dims.{Dims}
 use Rattle.dory_base.specs.declared.entry.Entry.{Entry}
 use Rattle.dory_base.specs.declared.refusal.Refusal.TheVariants.{NoFolder}
-use Rattle.dory_base.specs.History.{IsPrefix}
+use Rattle.dory_base.specs.History.{IsHistory, IsPrefix}
 use Rattle.dory_base.specs.Step.{State, IsState}
 use Rattle.dory_wire.specs.declared.message.Want.{Want}
 use Rattle.dory_wire.specs.declared.message.Want.TheVariants.{Latest, Search, Which, Stage, Order, Follow}
@@ -69,6 +69,7 @@ Grows (Some before) (Some now) = (folder : ℕ) → Grown (before folder) (now f
 pub record IsReadAt (before now : Told) (want : Want) (what : What) (history : List Entry) : Type 0 where
   pub later : IsPrefix before.history history
   pub earlier : IsPrefix history now.history
+  pub is : IsHistory before.shape history
   pub value : IsReadOf (read_of before.shape before.retained history want) what
 
 -- the folder as it is told has this state, but for what is staged
