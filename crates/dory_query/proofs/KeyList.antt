@@ -3,11 +3,19 @@ use Rattle.std.proofs.Common.{◌≡◌, ℕ, zero, suc, ◌+◌, ◌*◌, ◌<�
 use Rattle.std.specs.Int.{w32, to_le_bytes}
 use Rattle.std.specs.List.{AllByRecursion, range_with_len}
 use Rattle.dory_dpf.specs.Block.{stream_word}
-use Rattle.dory_dpf.specs.PointKey.{PointKey, short_key_of, shares_of}
+use Rattle.dory_dpf.specs.PointKey.{PointKey, IsKey, IsKeyOf, form_of, short_key_of, shares_of}
 use Rattle.dory_dpf.proofs.Pair.{short_pair}
 use Rattle.dory_bloom.specs.Positions.{column_at}
 use Rattle.dory_query.specs.Drawn.{four_words, probe_key, keys_from}
 use Rattle.dory_query.specs.Pairs.{ArePairs}
+
+pub all_more : {X : Type 0} (P : X → Type 0) (xs : List X) (y : X) → AllByRecursion P xs → P y → AllByRecursion P (xs ++ y ∷ [])
+all_more P [] y all h = (h, tt)
+all_more P (x ∷ xs) y all h = (all.0, all_more P xs y all.1 h)
+
+-- a key that is drawn is of form 2 and of the row's depth
+pub short_is : (party depth column : ℕ) (first second : List ℕ) (key : PointKey) → key ≡ short_key_of party depth column first second → IsKey key → IsKeyOf 2 depth key
+short_is party depth column first second key e is = record { key = is; form = ap (λ (k : PointKey). form_of k) e; depth = ap (λ (k : PointKey). k.depth) e }
 
 pub next : (i : ℕ) → i + 1 ≡ suc i
 next i = omega arith

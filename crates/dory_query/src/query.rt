@@ -3,7 +3,7 @@ ghost use Rattle.std.specs.Prelude.{◌≡◌, ◌≤◌, ◌<◌, ◌-◌, ◌^
 ghost use Rattle.std.specs.List.{AllByRecursion};
 ghost use Rattle.dory_base.specs.declared.ids.AskId.{AskId as AskOf};
 ghost use Rattle.dory_bloom.specs.Positions.{positions_of};
-ghost use Rattle.dory_dpf.specs.PointKey.{shares_of};
+ghost use Rattle.dory_dpf.specs.PointKey.{IsKeyOf, shares_of};
 ghost use Rattle.dory_query.specs.Columns.{asked_columns};
 ghost use Rattle.dory_query.specs.Drawn.{keys_from};
 ghost use Rattle.dory_query.specs.Pairs.{ArePairs};
@@ -47,6 +47,9 @@ impl Query {
             IfOk result (λ q. q.lead_keys ≡ keys_from 0 shape.depth seed.now first.serial 0 (positions_of keys.now shape word.now)) }
         ensures follow { (first second : AskOf) → asks ≡ first ∷ second ∷ [] →
             IfOk result (λ q. q.follow_keys ≡ keys_from 1 shape.depth seed.now first.serial 0 (positions_of keys.now shape word.now)) }
+        // As many keys as probes for each party, of form 2 and of the row's depth.
+        ensures lead_are { IfOk result (λ q. (length q.lead_keys ≡ shape.probes) × AllByRecursion (IsKeyOf 2 shape.depth) q.lead_keys) }
+        ensures follow_are { IfOk result (λ q. (length q.follow_keys ≡ shape.probes) × AllByRecursion (IsKeyOf 2 shape.depth) q.follow_keys) }
         ensures pairs { IfOk result (λ q. ArePairs (2 ^ shape.depth) (positions_of keys.now shape word.now) (map shares_of q.lead_keys) (map shares_of q.follow_keys)) }
     {
         let mut word_columns = [0; 8];
@@ -84,6 +87,8 @@ fn draw(
     requires within { AllByRecursion (λ c. c < 2 ^ shape.depth) columns.now }
     ensures lead { IfOk result (λ drawn. drawn.lead ≡ keys_from 0 shape.depth seed.now stream 0 columns.now) }
     ensures follow { IfOk result (λ drawn. drawn.follow ≡ keys_from 1 shape.depth seed.now stream 0 columns.now) }
+    ensures lead_are { IfOk result (λ drawn. (length drawn.lead ≡ length columns.now) × AllByRecursion (IsKeyOf 2 shape.depth) drawn.lead) }
+    ensures follow_are { IfOk result (λ drawn. (length drawn.follow ≡ length columns.now) × AllByRecursion (IsKeyOf 2 shape.depth) drawn.follow) }
 {
     let words = drawn(seed, stream);
     let mut lead = Vec::new(alloc);
@@ -92,6 +97,7 @@ fn draw(
         let first = seed_at(&words, 8 * probe);
         let second = seed_at(&words, 8 * probe + 4);
         let (l, f) = gen_short(shape, columns[probe], first, second);
+        let (_, _) = (l.depth(), f.depth());
         lead.push(l)?;
         follow.push(f)?;
     }

@@ -6,3 +6,4 @@ pub mod Going
 pub mod CheckLaws
 pub mod Tagged
 pub mod Beside
+pub mod Passing

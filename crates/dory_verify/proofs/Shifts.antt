@@ -64,6 +64,16 @@ pair_differs m c us vs is l = record {
 length-bits : (ls : List Live) (s : List Bool) → length (bits_by ls s) ≡ length (places ls)
 length-bits ls s = length-map ls _ ∙ sym (length-map ls _)
 
+-- the honest sums of a point pair show the cells of its column
+bits_show : (tag : ℕ → Place → Bool → ℕ) (m c : ℕ) (slots : Slots) (us vs : List Bool) → AllByRecursion (IsTagged tag m) (live_of slots) → c < m → IsPointPair m c us vs → ShowsCells slots c (sum_of slots us) (sum_of slots vs)
+bits_show tag m c slots us vs all l pair = bits_point tag m us vs c (live_of slots) all pair.lead_has pair.follow_has l (pair_differs m c us vs pair l)
+
+-- and their tags add up
+pub sums_add : (tag : ℕ → Place → Bool → ℕ) (m c : ℕ) (slots : Slots) (us vs : List Bool) → AllByRecursion (IsTagged tag m) (live_of slots) → c < m → IsPointPair m c us vs → AddUp tag slots c (sum_of slots us) (sum_of slots vs)
+sums_add tag m c slots us vs all l pair =
+    tags_point tag m us vs c (live_of slots) all pair.lead_has pair.follow_has l (pair_differs m c us vs pair l)
+    ∙ ap (λ (bs : List Bool). xor_all (tags_at (tag c) (places (live_of slots)) bs)) (sym (bits_show tag m c slots us vs all l pair))
+
 -- a sum whose tags add up beside an honest one is shifted by what it flips
 pub shifted : (tag : ℕ → Place → Bool → ℕ) (m c : ℕ) (slots : Slots) (mine : List Bool) (p : Probe) (given : Sum)
     → AllByRecursion (IsTagged tag m) (live_of slots) → p.column ≡ c → c < m → IsPointPair m c mine p.shares
@@ -76,17 +86,10 @@ shifted tag m c slots mine p given all is l pair n adds = subst (λ (k : ℕ). s
     shift_is : ℕ → Type 0
     shift_is k = bit_xor given.tag (tag_by (live_of slots) p.shares) ≡ xor_all (map (both_tags (tag k)) (flips slots p given))
 
-    differ : DifferAt mine p.shares c
-    differ = pair_differs m c mine p.shares pair l
-
-    honest : bit_xor (tag_by (live_of slots) mine) (tag_by (live_of slots) p.shares) ≡ xor_all (tags_at (tag c) (places (live_of slots)) (xor_bits (bits_by (live_of slots) mine) (bits_by (live_of slots) p.shares)))
-    honest = tags_point tag m mine p.shares c (live_of slots) all pair.lead_has pair.follow_has l differ
-        ∙ ap (λ (bs : List Bool). xor_all (tags_at (tag c) (places (live_of slots)) bs)) (sym (bits_point tag m mine p.shares c (live_of slots) all pair.lead_has pair.follow_has l differ))
-
     whole : shift_is c
     whole =
         sym (cancel (tag_by (live_of slots) mine) given.tag (tag_by (live_of slots) p.shares))
-        ∙ (λ i. bit_xor (adds i) (honest i))
+        ∙ (λ i. bit_xor (adds i) (sums_add tag m c slots mine p.shares all l pair i))
         ∙ tags_differ (tag c) (places (live_of slots)) (xor_bits (bits_by (live_of slots) mine) given.bits) (xor_bits (bits_by (live_of slots) mine) (bits_by (live_of slots) p.shares))
         (length-xor (bits_by (live_of slots) mine) given.bits (length-bits (live_of slots) mine ∙ sym n) ∙ length-bits (live_of slots) mine)
         (length-xor (bits_by (live_of slots) mine) (bits_by (live_of slots) p.shares) (length-bits (live_of slots) mine ∙ sym (length-bits (live_of slots) p.shares)) ∙ length-bits (live_of slots) mine)
@@ -110,7 +113,7 @@ pub shows_cells : (tag : ℕ → Place → Bool → ℕ) (m c : ℕ) (slots : Sl
     → length given.bits ≡ length (manifest_of slots) → flips slots p given ≡ [] → ShowsCells slots c (sum_of slots mine) given
 shows_cells tag m c slots mine p given all l pair n none =
     ap (xor_bits (bits_by (live_of slots) mine)) (same_bits (places (live_of slots)) given.bits (bits_by (live_of slots) p.shares) n (length-bits (live_of slots) p.shares) none)
-    ∙ bits_point tag m mine p.shares c (live_of slots) all pair.lead_has pair.follow_has l (pair_differs m c mine p.shares pair l)
+    ∙ bits_show tag m c slots mine p.shares all l pair
 
 all_shifted : (tag : ℕ → Place → Bool → ℕ) (m : ℕ) (slots : Slots) (bs : List Both) (sums : List Sum) → AllByRecursion (IsTagged tag m) (live_of slots) → AllByRecursion (IsAsked m) bs → AllZip (IsChecked tag slots) bs sums
     → AllZip (IsShifted tag slots) (map other_of bs) sums

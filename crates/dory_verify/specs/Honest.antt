@@ -3,6 +3,7 @@ use Rattle.std.specs.Prelude.{ℕ, ◌≡◌, ◌⊎◌, ◌^◌, Bool, List, ma
 use Rattle.std.specs.List.{AllByRecursion}
 use Rattle.dory_base.specs.Dims.{Dims}
 use Rattle.dory_base.specs.declared.entry.Entry.{Entry}
+use Rattle.dory_base.specs.declared.ids.AskId.{AskId}
 use Rattle.dory_base.specs.declared.found.Found.{Found}
 use Rattle.dory_base.specs.History.{IsHistory, version_of}
 use Rattle.dory_base.specs.Sum.{sum_of}
@@ -11,12 +12,17 @@ use Rattle.dory_bloom.specs.Positions.{positions_of}
 use Rattle.dory_hmac.specs.declared.folder_keys.FolderKeys.{FolderKeys}
 use Rattle.dory_seal.specs.Seal.{IsSealed}
 use Rattle.dory_query.specs.Pairs.{ArePairs}
+use Rattle.dory_wire.specs.declared.message.What.{What}
 use Rattle.dory_wire.specs.declared.message.What.TheVariants.{Found as Finds}
 use Rattle.dory_wire.specs.declared.message.Reply.{Reply}
 use Rattle.dory_wire.specs.Reading.{reply_in}
 use Rattle.dory_base.specs.declared.ids.DocId.{DocId}
 use Rattle.dory_verify.specs.Answer.{IsAnswer}
 use Rattle.dory_verify.specs.Forgery.{IsForgery}
+
+-- the reply to an ask
+abbrev pub reply : AskId → What → Reply
+reply ask what = record { ask = ask; what = what }
 
 -- the frame is a reply with this found
 abbrev pub IsFoundIn : List ℕ → Found → Type 0
