@@ -79,3 +79,11 @@ second_broken a a' b b' r first s second frame e f asked unanswered = record {
 
 pub both_asked : (a a' b b' : Heard) (r first s second : Request) (frame came : List ℕ) → r ≡ first → s ≡ second → Ask a a' r frame → Ask b b' s came → Partly a a' b b' first second
 both_asked a a' b b' r first s second frame came e f asked asked' = second_broken a a' b b' r first s second frame e f asked (whole b b' s came asked')
+
+-- neither was asked
+pub neither_asked : (a b : Heard) (first second : Request) → Partly a a b b first second
+neither_asked a b first second = record { of_lead = not_asked a first; of_follow = not_asked b second }
+
+-- the first alone was
+pub first_asked : (a a' b : Heard) (r first second : Request) (frame : List ℕ) → r ≡ first → Ask a a' r frame → Partly a a' b b first second
+first_asked a a' b r first second frame e asked = second_broken a a' b b r first second second frame e refl asked (not_asked b second)

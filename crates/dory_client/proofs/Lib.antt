@@ -1,9 +1,8 @@
 pub mod Asks
-pub mod Courses
 pub mod PlainWords
-pub mod Listing
+pub mod Sealed
+pub mod Courses
 pub mod Right
 pub mod Replied
-pub mod Passes
 pub mod Complete
 pub mod Ends

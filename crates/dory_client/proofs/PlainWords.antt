@@ -1,18 +1,12 @@
--- Plain bytes are a word that is read as it stands, and a word's positions are columns.
+-- Plain bytes are a word that is read as it stands.
 use Rattle.std.proofs.Common.{◌≡◌, ℕ, ◌≤◌, ◌<◌, ◌^◌, ◌⊎◌, inl, inr, Bool, true, false, ◌&&◌, ◌||◌, List, [], ◌∷◌, length, map, take, take_all, Some, None, cond, refl, ap, sym, ◌∙◌, arith}
 use Rattle.std.specs.Prelude.{nat_le}
 use Rattle.std.specs.Char.{to_ascii_lowercase}
 use Rattle.std.specs.List.{list_all, AllPass}
 use Rattle.std.proofs.lemmas.Bool.Decides.{nat_tests}
 use Rattle.std.proofs.lemmas.List.Sums.{AllPass-from_list_all}
-use Rattle.std.proofs.lemmas.List.Elements.{recursion_from_All}
 use Rattle.std.proofs.lemmas.Str.Ascii.{lowercase_is}
-use Rattle.dory_base.specs.Dims.{Dims}
 use Rattle.dory_base.specs.Words.{is_word_byte, word_of}
-use Rattle.dory_hmac.specs.declared.folder_keys.FolderKeys.{FolderKeys}
-use Rattle.dory_bloom.specs.Positions.{positions_of}
-use Rattle.dory_bloom.proofs.Columns.{length-positions_of, positions_of-lt}
-use Rattle.dory_wire.specs.Spelling.{AreColumns}
 use Rattle.dory_client.specs.CommandLine.{is_plain, is_plain_word}
 
 and_true : (a b : Bool) → (a && b) ≡ true → (a ≡ true) × (b ≡ true)
@@ -70,13 +64,6 @@ pub plain_stays : (bs : List ℕ) → is_plain_word bs ≡ true → word_of bs �
 plain_stays bs h =
     let few : length bs ≤ 64 = le_true (length bs) 64 (and_true (nat_le 1 (length bs)) (nat_le (length bs) 64) (and_true (nat_le 1 (length bs) && nat_le (length bs) 64) (list_all is_plain bs) h).0).1 in
     ap (map to_ascii_lowercase) (take_all 64 bs few) ∙ all_lower bs (and_true (nat_le 1 (length bs) && nat_le (length bs) 64) (list_all is_plain bs) h).1
-
--- the positions of a word are as many columns as probes
-pub are_columns : (keys : FolderKeys) (shape : Dims) (word : List ℕ) → AreColumns shape (positions_of keys shape word)
-are_columns keys shape word = record {
-  many = length-positions_of keys shape word;
-  each = recursion_from_All _ _ (positions_of-lt keys shape word);
-}
 
 -- bytes whose number is in range are a plain word where all are plain
 pub plain_test : (bs : List ℕ) (b : Bool) → 1 ≤ length bs → length bs ≤ 64 → b ≡ list_all is_plain bs → b ≡ is_plain_word bs

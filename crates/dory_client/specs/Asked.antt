@@ -9,8 +9,8 @@ use Rattle.dory_wire.specs.Frame.{frame_of}
 use Rattle.dory_wire.specs.Reading.{reply_in}
 use Rattle.dory_wire.specs.Spelling.{spelling_of_request}
 use Rattle.dory_link.specs.Told.{Told, Talk, talk, Heard, Grows, IsAnswer}
-use Rattle.dory_compare.specs.declared.fault.VerifyError.{VerifyError}
-use Rattle.dory_compare.specs.declared.fault.VerifyError.TheVariants as errors
+use Rattle.dory_verify.specs.declared.fault.VerifyError.{VerifyError}
+use Rattle.dory_verify.specs.declared.fault.VerifyError.TheVariants as errors
 use Rattle.dory_client.specs.declared.state.KeptState.{KeptState}
 use Rattle.dory_client.specs.declared.end.ClientEnd.{ClientEnd}
 use Rattle.dory_client.specs.declared.end.ClientEnd.TheVariants as ends

@@ -1,10 +1,13 @@
 -- Over which links a search fails no check but by a refusal.
 use Rattle.std.specs.Prelude.{ℕ, ◌≡◌, ◌≤◌, ⊤, List, Option, Some, None, Ok, length}
+use Rattle.std.specs.List.{AllByRecursion}
 use Rattle.dory_base.specs.declared.entry.Entry.{Entry}
+use Rattle.dory_seal.specs.Seal.{IsSealed}
+use Rattle.dory_client.specs.Sought.{folder_keys}
 use Rattle.dory_base.specs.History.{version_of}
 use Rattle.dory_link.specs.Told.{Told, Heard}
-use Rattle.dory_compare.specs.declared.fault.CheckFault.{CheckFault}
-use Rattle.dory_compare.specs.declared.fault.CheckFault.TheVariants as fault
+use Rattle.dory_verify.specs.declared.fault.CheckFault.{CheckFault}
+use Rattle.dory_verify.specs.declared.fault.CheckFault.TheVariants as fault
 use Rattle.dory_client.specs.declared.state.KeptState.{KeptState}
 use Rattle.dory_io.specs.Causes.{Rose}
 use Rattle.dory_client.specs.declared.end.ClientEnd.{ClientEnd}
@@ -36,13 +39,15 @@ abbrev pub Agree : List Entry → List Entry → Type 0
 Agree a b = (number : ℕ) → number ≤ length a → number ≤ length b → version_of number a ≡ version_of number b
 
 -- Both links tell the folder of the kept state, each history is at the start no shorter than what was seen, and at the
--- end the versions that both histories have are alike. The shapes and how many versions are retained may differ.
+-- end the versions that both histories have are alike and their entries sealed under the folder's keys. The shapes and
+-- how many versions are retained may differ.
 pub record TellAlike (kept : Option (Option (List ℕ))) (lead lead' follow follow' : Heard) : Type 0 where
   pub state : KeptState
   pub keeps : KeepsState kept state
   pub by_lead : TellsSeen lead lead' state
   pub by_follow : TellsSeen follow follow' state
   pub agree : Agree by_lead.folder_now.history by_follow.folder_now.history
+  pub sealed : AllByRecursion (IsSealed (folder_keys state)) by_lead.folder_now.history
 
 -- the fault is that a domain refused
 abbrev pub IsRefusal : CheckFault → Type 0
@@ -50,7 +55,10 @@ IsRefusal (fault.Refused side code) = ⊤
 IsRefusal (fault.Form side at) = ⊥
 IsRefusal (fault.Echo side asked got) = ⊥
 IsRefusal (fault.Stale side latest seen) = ⊥
-IsRefusal (fault.Differ at) = ⊥
+IsRefusal (fault.Version side asked got) = ⊥
+IsRefusal (fault.Manifest place) = ⊥
+IsRefusal (fault.Count side got want) = ⊥
+IsRefusal (fault.TagSum probe got want) = ⊥
 
 -- a search that nothing outside failed ends done, or by a refusal; memory may run out
 abbrev pub EndsWell : ClientEnd → Type 0

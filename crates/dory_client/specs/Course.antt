@@ -4,13 +4,15 @@ use Rattle.dory_base.specs.declared.found.Found.{Found}
 use Rattle.dory_wire.specs.declared.message.Want.TheVariants.{Latest, Search}
 use Rattle.dory_wire.specs.declared.message.Request.{Request}
 use Rattle.dory_link.specs.Told.{Heard}
-use Rattle.dory_compare.specs.declared.answer.Answer.{Answer}
-use Rattle.dory_compare.specs.declared.fault.CheckFault.{CheckFault}
-use Rattle.dory_compare.specs.Checks.{lengths_of, first_fault_of}
-use Rattle.dory_compare.specs.Listing.{Lists}
+use Rattle.dory_verify.specs.declared.answer.Answer.{Answer}
+use Rattle.dory_verify.specs.declared.fault.CheckFault.{CheckFault}
+use Rattle.dory_verify.specs.Checks.{lengths_of, first_fault_of}
+use Rattle.dory_verify.specs.Listing.{Lists}
+use Rattle.dory_dpf.specs.PointKey.{PointKey}
 use Rattle.dory_client.specs.declared.state.KeptState.{KeptState}
 use Rattle.dory_client.specs.declared.end.ClientEnd.{ClientEnd}
 use Rattle.dory_client.specs.declared.end.ClientEnd.TheVariants as ends
+use Rattle.dory_client.specs.Sought.{Sought}
 use Rattle.dory_client.specs.Asked.{Ask, Unanswered, ask_of, asked_of}
 
 -- a fact of what went well, or of a check that failed; a search has no other ends but a link's fault and want of memory
@@ -43,46 +45,48 @@ abbrev pub Lengths : Heard → Heard → Heard → Heard → KeptState → Resul
 Lengths lead lead' follow follow' state gave = Pair lead lead' follow follow' (asked_of state 0 Latest) (asked_of state 1 Latest) (lengths_of state.seen (ask_of state 0) (ask_of state 1)) gave
 
 -- the request of a search at a version
-abbrev pub searching : KeptState → ℕ → ℕ → List ℕ → Request
+abbrev pub searching : KeptState → ℕ → ℕ → List PointKey → Request
 searching state step version keys = asked_of state step (Search version state.shape keys)
 
--- both were asked what a version holds
-abbrev pub Finding : Heard → Heard → Heard → Heard → KeptState → ℕ → List ℕ → Result Found CheckFault → Type 0
-Finding lead lead' follow follow' state version keys gave = Pair lead lead' follow follow' (searching state 2 version keys) (searching state 3 version keys) (first_fault_of version state.seen (ask_of state 2) (ask_of state 3)) gave
+-- both were asked what a version holds, each by its own keys
+abbrev pub Finding : Heard → Heard → Heard → Heard → KeptState → ℕ → Sought → Result (Found × Found) CheckFault → Type 0
+Finding lead lead' follow follow' state version s gave =
+    Pair lead lead' follow follow' (searching state 2 version s.lead) (searching state 3 version s.follow) (first_fault_of s.keys s.columns version state.seen (ask_of state 2) (ask_of state 3)) gave
 
 -- the smaller number
 abbrev pub lesser : ℕ → ℕ → ℕ
 lesser m n = if nat_lt m n then m else n
 
 -- both pairs, at the smaller of the two lengths, and what the second gave
-pub record Searched (lead lead' follow follow' : Heard) (state : KeptState) (keys : List ℕ) (version : ℕ) (gave : Result Found CheckFault) : Type 0 where
+pub record Searched (lead lead' follow follow' : Heard) (state : KeptState) (s : Sought) (version : ℕ) (gave : Result (Found × Found) CheckFault) : Type 0 where
   pub lead_between : Heard
   pub follow_between : Heard
   pub lengths : ℕ × ℕ
   pub first : Lengths lead lead_between follow follow_between state (Ok lengths)
   pub smaller : version ≡ lesser lengths.0 lengths.1
-  pub second : Finding lead_between lead' follow_between follow' state version keys gave
+  pub second : Finding lead_between lead' follow_between follow' state version s gave
 
 -- the lengths came, and each was asked to search or not
-pub record PartlySearched (lead lead' follow follow' : Heard) (state : KeptState) (keys : List ℕ) : Type 0 where
+pub record PartlySearched (lead lead' follow follow' : Heard) (state : KeptState) (s : Sought) : Type 0 where
   pub lead_between : Heard
   pub follow_between : Heard
   pub lengths : ℕ × ℕ
   pub first : Lengths lead lead_between follow follow_between state (Ok lengths)
-  pub second : Partly lead_between lead' follow_between follow' (searching state 2 (lesser lengths.0 lengths.1) keys) (searching state 3 (lesser lengths.0 lengths.1) keys)
+  pub second : Partly lead_between lead' follow_between follow' (searching state 2 (lesser lengths.0 lengths.1) s.lead) (searching state 3 (lesser lengths.0 lengths.1) s.follow)
 
--- both pairs went well, and the answer lists what was found
-abbrev pub Answered : Heard → Heard → Heard → Heard → KeptState → List ℕ → Answer → Type 0
-Answered lead lead' follow follow' state keys answer = (f : Found) × (version : ℕ) × Searched lead lead' follow follow' state keys version (Ok f) × Lists state.shape.probes version f answer
+-- both pairs went well, and the answer lists what the two found
+abbrev pub Answered : Heard → Heard → Heard → Heard → KeptState → Sought → Answer → Type 0
+Answered lead lead' follow follow' state s answer =
+    (both : Found × Found) × (version : ℕ) × Searched lead lead' follow follow' state s version (Ok both) × Lists s.keys s.columns version both.0 both.1 answer
 
 -- the first pair's check failed, or the second's
-abbrev pub Failed : Heard → Heard → Heard → Heard → KeptState → List ℕ → CheckFault → Type 0
-Failed lead lead' follow follow' state keys f = Lengths lead lead' follow follow' state (Err f) ⊎ ((version : ℕ) × Searched lead lead' follow follow' state keys version (Err f))
+abbrev pub Failed : Heard → Heard → Heard → Heard → KeptState → Sought → CheckFault → Type 0
+Failed lead lead' follow follow' state s f = Lengths lead lead' follow follow' state (Err f) ⊎ ((version : ℕ) × Searched lead lead' follow follow' state s version (Err f))
 
 -- the asks ended early: what was asked is the first part of a search's asks
-abbrev pub Broken : Heard → Heard → Heard → Heard → KeptState → List ℕ → Type 0
-Broken lead lead' follow follow' state keys = Partly lead lead' follow follow' (asked_of state 0 Latest) (asked_of state 1 Latest) ⊎ PartlySearched lead lead' follow follow' state keys
+abbrev pub Broken : Heard → Heard → Heard → Heard → KeptState → Sought → Type 0
+Broken lead lead' follow follow' state s = Partly lead lead' follow follow' (asked_of state 0 Latest) (asked_of state 1 Latest) ⊎ PartlySearched lead lead' follow follow' state s
 
 -- the course of a search, as far as it says
-abbrev pub Course : Heard → Heard → Heard → Heard → KeptState → List ℕ → Result Answer ClientEnd → Type 0
-Course lead lead' follow follow' state keys result = OnCheck result (Answered lead lead' follow follow' state keys) (Failed lead lead' follow follow' state keys)
+abbrev pub Course : Heard → Heard → Heard → Heard → KeptState → Sought → Result Answer ClientEnd → Type 0
+Course lead lead' follow follow' state s result = OnCheck result (Answered lead lead' follow follow' state s) (Failed lead lead' follow follow' state s)

@@ -1,8 +1,9 @@
 pub mod State
 pub mod CommandLine
-pub mod Columns
+pub mod Sought
 pub mod Text
 pub mod Asked
+pub mod Queried
 pub mod Course
 pub mod Headline
 pub mod Complete

@@ -3,8 +3,8 @@ use Rattle.std.specs.Prelude.{ℕ, List, [], ◌∷◌, ◌++◌, codes}
 use Rattle.std.specs.List.{flat_map}
 use Rattle.std.specs.Fmt.{decimal}
 use Rattle.dory_base.specs.Texts.{side_text}
-use Rattle.dory_compare.specs.Texts.{check_text}
-use Rattle.dory_compare.specs.declared.answer.Answer.{Answer}
+use Rattle.dory_verify.specs.Texts.{check_text}
+use Rattle.dory_verify.specs.declared.answer.Answer.{Answer}
 use Rattle.dory_client.specs.declared.end.ClientEnd.{ClientEnd}
 use Rattle.dory_client.specs.declared.end.ClientEnd.TheVariants as ends
 

@@ -3,7 +3,7 @@ ghost use Rattle.std.specs.Prelude.{◌≡◌, Some, IfOk, string_bytes};
 ghost use Rattle.dory_client.specs.Text.{end_text, status_of};
 
 use dory_base::{NoMemory, Side};
-use dory_compare::CheckFault;
+use dory_verify::CheckFault;
 use std::alloc::Global;
 use std::fmt;
 

@@ -14,7 +14,7 @@ mod text;
 mod words;
 
 use crate::end::{ClientEnd, client_text};
-use crate::in_memory::{kept, link};
+use crate::in_memory::{kept, link, shape};
 use crate::run::client_run;
 use crate::std_sink::StdSink;
 use dory_base::{NoMemory, Side, Word};
@@ -64,10 +64,10 @@ fn search_in_memory<W: Write + Drop>(
     words: &[String],
     stdout: W,
 ) -> Result<ClientEnd, NoMemory> {
-    let alpha = Word::read(b"alpha").ok();
-    let mut lead = link(alloc, Side::Lead, alpha)?;
-    let mut follow = link(alloc, Side::Follow, alpha)?;
-    let mut keeper = MemKeeper::new(Some(kept(alloc, 1)?), Vec::new(alloc));
+    let alpha = [Word::read(b"alpha").map_err(|_| NoMemory)?];
+    let mut lead = link(alloc, Side::Lead, shape(2), &alpha)?;
+    let mut follow = link(alloc, Side::Follow, shape(2), &alpha)?;
+    let mut keeper = MemKeeper::new(Some(kept(alloc, 2, 1)?), Vec::new(alloc));
     let mut input = VecSource::new(Vec::new(alloc), Vec::new(alloc));
     let mut out = StdSink::new(alloc, stdout);
     Ok(client_run(

@@ -4,7 +4,7 @@ ghost use Rattle.dory_io.specs.Bytes.{Stays};
 ghost use Rattle.dory_io.specs.Causes.{Rose};
 ghost use Rattle.dory_client.specs.CommandLine.{searched_word};
 ghost use Rattle.dory_client.specs.Headline.{IsRun, IsAccepted};
-ghost use Rattle.dory_compare.specs.declared.fault.CheckFault.{CheckFault};
+ghost use Rattle.dory_verify.specs.declared.fault.CheckFault.{CheckFault};
 ghost use Rattle.dory_client.specs.Complete.{TellAlike, IsRefusal, EndsWell, Unhindered};
 
 use crate::end::{ClientEnd, UsageFault};
@@ -22,7 +22,7 @@ use std::alloc::Global;
 pub fn client_run<L0: Link, L1: Link, K: Keeper, S: Source, O: Sink>(
     alloc: Global,
     words: &[String],
-    _seed: [u8; 32],
+    seed: [u8; 32],
     lead: &mut L0,
     follow: &mut L1,
     keeper: &mut K,
@@ -30,11 +30,12 @@ pub fn client_run<L0: Link, L1: Link, K: Keeper, S: Source, O: Sink>(
     out: &mut O,
 ) -> ClientEnd
     // What was asked, what came and what was written, by the end.
-    ensures run { IsRun (K.kept keeper.old) (map string_bytes words.now) (L0.heard lead.old) (L0.heard lead.new) (L1.heard follow.old) (L1.heard follow.new) (O.written out.old) (O.written out.new) result }
-    // The headline: an accepted search is right by each link that tells its folders.
-    ensures accepted { result ≡ ClientEnd.Done → IsAccepted (K.kept keeper.old) (map string_bytes words.now) (L0.heard lead.old) (L0.heard lead.new) (L1.heard follow.old) (L1.heard follow.new) (O.written out.old) (O.written out.new) }
-    // Over two links that tell the folder, with histories that agree and were no shorter than what was seen, no check
-    // fails but by a refusal.
+    ensures run { IsRun (K.kept keeper.old) (map string_bytes words.now) seed (L0.heard lead.old) (L0.heard lead.new) (L1.heard follow.old) (L1.heard follow.new) (O.written out.old) (O.written out.new) result }
+    // The headline: an accepted search is right by each link that tells its folders, or the other link's reply is the
+    // forgery.
+    ensures accepted { result ≡ ClientEnd.Done → IsAccepted (K.kept keeper.old) (map string_bytes words.now) seed (L0.heard lead.old) (L0.heard lead.new) (L1.heard follow.old) (L1.heard follow.new) (O.written out.old) (O.written out.new) }
+    // Over two links that tell the folder, with sealed histories that agree and were no shorter than what was seen, no
+    // check fails but by a refusal.
     ensures complete { TellAlike (K.kept keeper.old) (L0.heard lead.old) (L0.heard lead.new) (L1.heard follow.old) (L1.heard follow.new) → (f : CheckFault) → result ≡ ClientEnd.Check f → IsRefusal f }
     // Where moreover the words are a search and nothing outside failed, the search ends done, or by a refusal.
     ensures ends { Unhindered (map string_bytes words.now) (K.faults keeper.old) (K.faults keeper.new) (L0.faults lead.old) (L0.faults lead.new) (L1.faults follow.old) (L1.faults follow.new) (O.faults out.old) (O.faults out.new) → TellAlike (K.kept keeper.old) (L0.heard lead.old) (L0.heard lead.new) (L1.heard follow.old) (L1.heard follow.new) → EndsWell result }
@@ -59,7 +60,7 @@ pub fn client_run<L0: Link, L1: Link, K: Keeper, S: Source, O: Sink>(
     let Ok(state) = read_state(&bytes) else {
         return ClientEnd::NoState;
     };
-    let answer = match search(alloc, &state, &word, lead, follow) {
+    let answer = match search(alloc, &state, &seed, &word, lead, follow) {
         Ok(answer) => answer,
         Err(end) => return end,
     };

@@ -1,22 +1,27 @@
 //! The two pairs of a search.
-ghost use Rattle.std.specs.Prelude.{◌≡◌, ◌≤◌, ◌<◌, ◌^◌, IfOk, OnOk, OnErr, IsErrOf, Ok, Err};
+ghost use Rattle.std.specs.List.{AllByRecursion};
+ghost use Rattle.dory_dpf.specs.PointKey.{IsKeyOf};
+ghost use Rattle.std.specs.Prelude.{length, ◌≡◌, ◌≤◌, ◌<◌, ◌^◌, IfOk, OnErr, IsErrOf, Ok, Err};
 ghost use Rattle.dory_base.specs.declared.found.Found.{Found};
-ghost use Rattle.dory_wire.specs.declared.message.Want.TheVariants.{Latest};
-ghost use Rattle.dory_wire.specs.Spelling.{IsWant, IsRequest, AreColumns};
+ghost use Rattle.dory_wire.specs.declared.message.Want.TheVariants.{Latest, Search};
+ghost use Rattle.dory_wire.specs.Spelling.{IsWant, IsRequest};
 ghost use Rattle.dory_io.specs.Causes.{HasCause};
-ghost use Rattle.dory_compare.specs.Listing.{Lists};
+ghost use Rattle.dory_verify.specs.Listing.{Lists};
 ghost use Rattle.dory_client.specs.State.{IsKept};
-ghost use Rattle.dory_client.specs.Columns.{word_columns};
+ghost use Rattle.dory_client.specs.Sought.{columns_of, folder_keys, sought_of};
+ghost use Rattle.dory_client.specs.Queried.{Asks};
 ghost use Rattle.dory_client.specs.Asked.{ask_of, asked_of, check_end};
 ghost use Rattle.dory_client.specs.Course.{OnCheck, Partly, Lengths, Finding, Course, Broken, searching, lesser as lesser_of};
 
 use crate::ask::ask;
 use crate::end::ClientEnd;
 use crate::state::KeptState;
-use crate::words::columns;
-use dory_base::{AskId, Keys, Side, Word};
-use dory_compare::{Answer, VerifyError, check_latest, compare};
+use dory_base::{AskId, Side, Word};
+use dory_dpf::Keys;
+use dory_hmac::FolderKeys;
 use dory_link::Link;
+use dory_query::Query;
+use dory_verify::{Answer, VerifyError, check_latest, verify};
 use dory_wire::{Request, Want};
 use std::alloc::Global;
 
@@ -80,49 +85,72 @@ fn lengths<L0: Link, L1: Link>(
     }
 }
 
+/// The search of a word at a version, as it is asked of both.
+fn query(
+    alloc: Global,
+    state: &KeptState,
+    keys: &FolderKeys,
+    seed: &[u8; 32],
+    word: &Word,
+    version: u32,
+) -> Result<Query, ClientEnd>
+    requires keys { keys.now ≡ folder_keys state.now }
+    ensures query { IfOk result (λ q. Asks state.now seed.now word.now version q) }
+    ensures memory { OnErr result (result ≡ Err ClientEnd.NoMemory) }
+{
+    let asks = [ask_id(state, 2), ask_id(state, 3)];
+    match Query::make(alloc, keys, state.shape, word, version, asks, seed) {
+        Ok(query) => Ok(query),
+        Err(_) => Err(ClientEnd::NoMemory),
+    }
+}
+
+/// What is asked of one of the two, by its keys.
+fn wanted(alloc: Global, state: &KeptState, version: u32, keys: &Keys) -> Result<Want, ClientEnd>
+    requires kept { IsKept state.now }
+    requires version { version ≤ 1048576 }
+    requires many { length keys.now ≡ state.now.shape.probes }
+    requires keys { AllByRecursion (IsKeyOf 2 state.now.shape.depth) keys.now }
+    ensures value { IfOk result (λ w. w ≡ Search version state.now.shape keys.now) }
+    ensures range { IfOk result IsWant }
+    ensures memory { OnErr result (result ≡ Err ClientEnd.NoMemory) }
+{
+    let Ok(keys) = keys.copy(alloc) else {
+        return Err(ClientEnd::NoMemory);
+    };
+    Ok(Want::Search {
+        version,
+        shape: state.shape,
+        keys,
+    })
+}
+
 /// What both find at a version.
 fn found<L0: Link, L1: Link>(
     alloc: Global,
     state: &KeptState,
+    keys: &FolderKeys,
+    seed: &[u8; 32],
+    word: &Word,
     version: u32,
-    lead_keys: Keys,
-    follow_keys: Keys,
     lead: &mut L0,
     follow: &mut L1,
 ) -> Result<Answer, ClientEnd>
     requires kept { IsKept state.now }
+    requires keys { keys.now ≡ folder_keys state.now }
     requires version { version ≤ 1048576 }
-    requires lead_keys { AreColumns state.now.shape lead_keys }
-    requires follow_keys { follow_keys ≡ lead_keys }
-    ensures course { OnCheck result (λ a. (f : Found) × Finding (L0.heard lead.old) (L0.heard lead.new) (L1.heard follow.old) (L1.heard follow.new) state.now version lead_keys (Ok f) × Lists state.now.shape.probes version f a)
-        (λ f. Finding (L0.heard lead.old) (L0.heard lead.new) (L1.heard follow.old) (L1.heard follow.new) state.now version lead_keys (Err f)) }
-    ensures broken { OnErr result (Partly (L0.heard lead.old) (L0.heard lead.new) (L1.heard follow.old) (L1.heard follow.new) (searching state.now 2 version lead_keys) (searching state.now 3 version lead_keys)) }
+    ensures course { OnCheck result (λ a. (both : Found × Found) × Finding (L0.heard lead.old) (L0.heard lead.new) (L1.heard follow.old) (L1.heard follow.new) state.now version (sought_of state.now seed.now word.now) (Ok both) × Lists (folder_keys state.now) (columns_of state.now word.now) version both.0 both.1 a)
+        (λ f. Finding (L0.heard lead.old) (L0.heard lead.new) (L1.heard follow.old) (L1.heard follow.new) state.now version (sought_of state.now seed.now word.now) (Err f)) }
+    ensures broken { OnErr result (Partly (L0.heard lead.old) (L0.heard lead.new) (L1.heard follow.old) (L1.heard follow.new) (searching state.now 2 version (sought_of state.now seed.now word.now).lead) (searching state.now 3 version (sought_of state.now seed.now word.now).follow)) }
     ensures lead { HasCause (L0.faults lead.old) (L0.faults lead.new) (IsErrOf result (ClientEnd.LinkFault Side.Lead)) }
     ensures follow { HasCause (L1.faults follow.old) (L1.faults follow.new) (IsErrOf result (ClientEnd.LinkFault Side.Follow)) }
 {
-    let shape = state.shape;
-    let want = Want::Search {
-        version,
-        shape,
-        keys: lead_keys,
-    };
+    let query = query(alloc, state, keys, seed, word, version)?;
+    let want = wanted(alloc, state, version, &query.lead_keys)?;
     let first = ask(alloc, lead, Side::Lead, &asked(state, 2, want))?;
-    let want = Want::Search {
-        version,
-        shape,
-        keys: follow_keys,
-    };
+    let want = wanted(alloc, state, version, &query.follow_keys)?;
     let second = ask(alloc, follow, Side::Follow, &asked(state, 3, want))?;
-    let asks = [ask_id(state, 2), ask_id(state, 3)];
-    match compare(
-        alloc,
-        state.shape.probes(),
-        version,
-        state.seen,
-        asks,
-        &first,
-        &second,
-    ) {
+    match verify(alloc, keys, &query, state.seen, &first, &second) {
         Ok(answer) => Ok(answer),
         Err(error) => Err(end_of(error)),
     }
@@ -140,24 +168,19 @@ fn lesser(length: u32, other: u32) -> u32
 pub fn search<L0: Link, L1: Link>(
     alloc: Global,
     state: &KeptState,
+    seed: &[u8; 32],
     word: &Word,
     lead: &mut L0,
     follow: &mut L1,
 ) -> Result<Answer, ClientEnd>
     requires { IsKept state.now }
-    ensures course { Course (L0.heard lead.old) (L0.heard lead.new) (L1.heard follow.old) (L1.heard follow.new) state.now (word_columns state.now word.now) result }
-    ensures broken { OnErr result (Broken (L0.heard lead.old) (L0.heard lead.new) (L1.heard follow.old) (L1.heard follow.new) state.now (word_columns state.now word.now)) }
-    ensures range { OnOk result (AreColumns state.now.shape (word_columns state.now word.now)) }
+    ensures course { Course (L0.heard lead.old) (L0.heard lead.new) (L1.heard follow.old) (L1.heard follow.new) state.now (sought_of state.now seed.now word.now) result }
+    ensures broken { OnErr result (Broken (L0.heard lead.old) (L0.heard lead.new) (L1.heard follow.old) (L1.heard follow.new) state.now (sought_of state.now seed.now word.now)) }
     ensures lead { HasCause (L0.faults lead.old) (L0.faults lead.new) (IsErrOf result (ClientEnd.LinkFault Side.Lead)) }
     ensures follow { HasCause (L1.faults follow.old) (L1.faults follow.new) (IsErrOf result (ClientEnd.LinkFault Side.Follow)) }
 {
-    let Ok(lead_keys) = columns(alloc, state, word) else {
-        return Err(ClientEnd::NoMemory);
-    };
-    let Ok(follow_keys) = columns(alloc, state, word) else {
-        return Err(ClientEnd::NoMemory);
-    };
+    let keys = FolderKeys::derive(&state.master, state.folder.0);
     let (length, other) = lengths(alloc, state, lead, follow)?;
     let version = lesser(length, other);
-    found(alloc, state, version, lead_keys, follow_keys, lead, follow)
+    found(alloc, state, &keys, seed, word, version, lead, follow)
 }

@@ -3,7 +3,7 @@ ghost use Rattle.std.specs.Prelude.{◌≡◌, IfOk, string_bytes};
 ghost use Rattle.dory_client.specs.Text.{answer_text};
 
 use dory_base::NoMemory;
-use dory_compare::Answer;
+use dory_verify::Answer;
 use std::alloc::Global;
 
 /// The text that a search writes, with its line end.

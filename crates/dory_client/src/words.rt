@@ -1,17 +1,9 @@
-//! The words of a command line, and the columns of the word that is searched for.
-ghost use Rattle.std.specs.Prelude.{◌≡◌, map, if◌then◌else◌, Some, None, string_bytes, IfOk};
+//! The words of a command line.
+ghost use Rattle.std.specs.Prelude.{◌≡◌, map, if◌then◌else◌, Some, None, string_bytes};
 ghost use Rattle.std.specs.List.{list_all};
-ghost use Rattle.dory_bloom.specs.Positions.{positions_of};
-ghost use Rattle.dory_wire.specs.Spelling.{AreColumns};
-ghost use Rattle.dory_client.specs.State.{IsKept};
 ghost use Rattle.dory_client.specs.CommandLine.{is_plain, is_plain_word, searched_word};
-ghost use Rattle.dory_client.specs.Columns.{word_columns};
 
-use crate::state::KeptState;
-use dory_base::{Keys, NoMemory, Shape, Word};
-use dory_bloom::positions;
-use dory_hmac::FolderKeys;
-use std::alloc::Global;
+use dory_base::Word;
 
 /// An ASCII letter in lower case, or an ASCII digit.
 fn is_plain(byte: u8) -> bool
@@ -60,29 +52,4 @@ pub fn read_words(words: &[String]) -> Option<Word>
         }
         _ => None,
     }
-}
-
-/// The positions of a word as a list.
-fn positions_in(
-    alloc: Global,
-    keys: &FolderKeys,
-    shape: Shape,
-    word: &Word,
-) -> Result<Vec<u16>, NoMemory>
-    ensures { IfOk result (λ columns. columns.items ≡ positions_of keys.now shape word.now) }
-{
-    let mut columns = [0; 8];
-    positions(keys, shape, word, &mut columns);
-    Ok(columns[..shape.probes() as usize].to_vec(alloc)?)
-}
-
-/// The columns of a word, under the keys of the state's folder.
-#[tactic(auto, unfolding(crate::specs::Columns::word_columns))]
-pub fn columns(alloc: Global, state: &KeptState, word: &Word) -> Result<Keys, NoMemory>
-    ensures value { IfOk result (λ keys. keys ≡ word_columns state.now word.now) }
-    ensures range { IfOk result (AreColumns state.now.shape) }
-{
-    let keys = FolderKeys::derive(&state.master, state.folder.0);
-    let columns = positions_in(alloc, &keys, state.shape, word)?;
-    Ok(Keys::of(columns))
 }

@@ -17,8 +17,9 @@ returns-in-Err-clause-run g c =
       is_kept = search rules;
       is_state = search rules;
       is_word = search rules;
+      in_range = search rules;
     } in
-    ended _ _ _ _ _ _ (g.O.Sink.written c.args.out.now) (g.O.Sink.written c.args.out.now) began c.in-Err.end c.in-Err.ensures.course c.in-Err.ensures.broken (search rules)
+    ended _ _ _ _ _ _ _ (g.O.Sink.written c.args.out.now) (g.O.Sink.written c.args.out.now) began c.in-Err.end c.in-Err.ensures.course c.in-Err.ensures.broken (search rules)
 
 pub returns-in-Err-clause-complete : goal.returns-in-Err-clause-complete
 returns-in-Err-clause-complete g c = λ complete f is.
@@ -29,8 +30,9 @@ returns-in-Err-clause-complete g c = λ complete f is.
       is_kept = search rules;
       is_state = search rules;
       is_word = search rules;
+      in_range = search rules;
     } in
-    only_refused _ _ _ _ _ _ began c.in-Err.end c.in-Err.ensures.course complete f is
+    only_refused _ _ c.args.seed _ _ _ _ began c.in-Err.end c.in-Err.ensures.course complete f is
 
 pub returns-in_default-answer_text-clause-run : goal.returns-in_default-answer_text-clause-run
 returns-in_default-answer_text-clause-run g c =
@@ -41,6 +43,7 @@ returns-in_default-answer_text-clause-run g c =
       is_kept = search rules;
       is_state = search rules;
       is_word = search rules;
+      in_range = search rules;
     } in
     (inr (began, broken_after _ _ _ _ _ _ c.in-Ok-search.answer c.in-Ok-search.ensures.course), search rules)
 
@@ -53,6 +56,7 @@ returns-in-Ok-write_all-clause-run g c =
       is_kept = search rules;
       is_state = search rules;
       is_word = search rules;
+      in_range = search rules;
     } in
     (began, c.in-Ok-search.answer, c.in-Ok-search.ensures.course, search rules)
 
@@ -65,10 +69,11 @@ returns-in-Ok-write_all-clause-accepted g c = λ done. record {
     is_kept = search rules;
     is_state = search rules;
     is_word = search rules;
+    in_range = search rules;
   };
   answer = c.in-Ok-search.answer;
-  by_lead = right_lead _ _ _ _ c.in-Ok.state c.in-Some.word c.in-Ok-search.answer c.in-Ok-search.ensures.course;
-  by_follow = right_follow _ _ _ _ c.in-Ok.state c.in-Some.word c.in-Ok-search.answer c.in-Ok-search.ensures.course;
+  by_lead = right_lead _ _ _ _ c.in-Ok.state c.args.seed c.in-Some.word c.in-Ok-search.answer (search rules) c.in-Ok-search.ensures.course;
+  by_follow = right_follow _ _ _ _ c.in-Ok.state c.args.seed c.in-Some.word c.in-Ok-search.answer (search rules) c.in-Ok-search.ensures.course;
   written = search rules;
 }
 
@@ -81,6 +86,7 @@ returns-clause-run g c =
       is_kept = search rules;
       is_state = search rules;
       is_word = search rules;
+      in_range = search rules;
     } in
     let part : AppendsPart (g.O.Sink.written c.args.out.now) (g.O.Sink.written c.write_all.new.out) (answer_text c.in-Ok-search.answer) =
     subst (λ (bytes : List ℕ). AppendsPart (g.O.Sink.written c.args.out.now) (g.O.Sink.written c.write_all.new.out) bytes) (c.as_bytes.ensures.value ∙ c.in-Ok-answer_text.ensures) c.in-Err-write_all.ensures.part in

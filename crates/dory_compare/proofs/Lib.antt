@@ -1,4 +1,0 @@
-pub mod Alike
-pub mod Listed
-pub mod Both
-pub mod Places

@@ -1,4 +1,0 @@
-pub mod Answer
-pub mod Checks
-pub mod Listing
-pub mod Texts
