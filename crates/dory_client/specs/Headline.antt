@@ -104,10 +104,11 @@ IsRightBy None now other state word answer = ⊤
 IsRightBy (Some before) None other state word answer = ⊥
 IsRightBy (Some before) (Some now) other state word answer = IsRightOf (before state.folder.0) (now state.folder.0) other state word answer
 
--- the part of the lead, and that of the follower
+-- the lead's part in a search: its asks are those at steps 0 and 2, with the keys of party 0
 abbrev pub lead_part : Heard → Heard → KeptState → List ℕ → List ℕ → Part
 lead_part lead lead' state seed word = record { before = lead.exchanges; now = lead'.exchanges; first = 0; second = 2; keys = (sought_of state seed word).lead }
 
+-- the follower's part: its asks are those at steps 1 and 3, with the keys of party 1
 abbrev pub follow_part : Heard → Heard → KeptState → List ℕ → List ℕ → Part
 follow_part follow follow' state seed word = record { before = follow.exchanges; now = follow'.exchanges; first = 1; second = 3; keys = (sought_of state seed word).follow }
 
