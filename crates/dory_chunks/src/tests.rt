@@ -3,12 +3,14 @@ ghost use Rattle.std.specs.Prelude.{◌≡◌, ◌≤◌, ◌<◌, ◌+◌, ◌^
 ghost use Rattle.dory_base.specs.Dims.{Dims};
 ghost use Rattle.dory_base.specs.History.{IsChangeOf};
 
-use crate::Version;
+use crate::{Steps, Version};
 use dory_base::{
     Bits, Change, DocId, Entry, MemberId, NoMemory, Place, Shape, SlotTable, Tag, Tags, UpdateId,
 };
 use dory_table::Table;
 use std::alloc::Global;
+use std::marker::Brand;
+use std::sync::ledger::{Blank, Ledger};
 
 fn named(serial: u64) -> UpdateId {
     UpdateId {
@@ -166,5 +168,102 @@ fn slots_go_on_into_the_next_chunk(rt: HostRuntime) -> Result<(), NoMemory> {
     version = version.next_version(alloc, &entry)?;
     table.apply(alloc, entry)?;
     assert!(rt; agree(alloc, &table, &version)?);
+    Ok(())
+}
+
+// The update of this serial in a long list: each third removes one of 80 documents, and the others post one.
+fn update(alloc: Global, shape: Shape, serial: u32) -> Result<Entry, NoMemory>
+    requires shape { shape.depth ≡ 8 }
+    requires few { serial ≤ 10000 }
+    ensures { IfOk result (λ e. IsChangeOf shape e.change) }
+{
+    let doc = serial * 37 % 80;
+    if serial % 3 == 0 {
+        return Ok(remove(serial as u64, doc));
+    }
+    let cell = (serial % 256) as u8;
+    post(alloc, shape, serial as u64, doc, cell as usize, cell)
+}
+
+#[test]
+fn a_long_list_of_updates_leaves_both_the_same(rt: HostRuntime) -> Result<(), NoMemory> {
+    let alloc = rt.alloc();
+    let shape = Shape::new(8, 2).expect(&rt, "a shape in range");
+    let mut table = Table::empty(alloc, shape)?;
+    let mut version = Version::empty(alloc, shape)?;
+    for serial in 1..401u32 {
+        let entry = update(alloc, shape, serial)?;
+        version = version.next_version(alloc, &entry)?;
+        table.apply(alloc, entry)?;
+        assert!(rt; agree(alloc, &table, &version)?, "after {serial}");
+    }
+    Ok(())
+}
+
+// A version with so many documents, whose tags are all ones and zeros.
+fn filled(alloc: Global, shape: Shape, count: u32) -> Result<Version, NoMemory>
+    requires shape { shape.depth ≡ 8 }
+    requires few { count ≤ 4096 }
+    ensures shape { IfOk result (λ v. v.shape ≡ shape) }
+    ensures number { IfOk result (λ v. v.number ≡ count) }
+{
+    let mut version = Version::empty(alloc, shape)?;
+    for doc in 0..count {
+        let entry = post(alloc, shape, doc as u64 + 1, doc, (doc % 256) as usize, 1)?;
+        version = version.next_version(alloc, &entry)?;
+    }
+    Ok(version)
+}
+
+#[test]
+fn the_4097th_document_has_no_slot(rt: HostRuntime) -> Result<(), NoMemory> {
+    let alloc = rt.alloc();
+    let shape = Shape::new(8, 2).expect(&rt, "a shape in range");
+    let full = filled(alloc, shape, 4096)?;
+    let entry = post(alloc, shape, 4097, 4096, 3, 9)?;
+    let next = full.next_version(alloc, &entry)?;
+    assert!(rt; next.number() == 4097);
+    assert!(rt; next.manifest(alloc)?.items() == full.manifest(alloc)?.items());
+    assert!(rt; next.manifest(alloc)?.items().len() == 4096 && next.row(4096).is_none());
+    assert!(rt; next.column_tag(3).bytes() == [0; 16]);
+    Ok(())
+}
+
+// Two updates, for each of which at most one chunk is made or copied.
+fn counted<L: Ledger>(
+    version: &Version,
+    alloc: Global,
+    updates: (&Entry, &Entry),
+    blank: Blank,
+) -> Result<Version, NoMemory>
+    requires name { blank.name ≡ L.name }
+    requires parts { blank.parts ≡ L.parts }
+    requires some { 0 < blank.parts }
+    requires room { version.now.number < 1000 }
+    requires first { IsChangeOf version.now.shape updates.0.now.change }
+    requires second { IsChangeOf version.now.shape updates.1.now.change }
+    ensures { IfOk result (λ v. v.shape ≡ version.now.shape) }
+{
+    let mut steps = Steps::<L>::new(blank);
+    let next = version.next_counted(alloc, updates.0, &mut steps)?;
+    next.next_counted(alloc, updates.1, &mut steps)
+}
+
+#[test]
+fn a_replaced_row_leaves_its_own_tags_alone(rt: HostRuntime) -> Result<(), NoMemory> {
+    let alloc = rt.alloc();
+    let shape = Shape::new(8, 2).expect(&rt, "a shape in range");
+    let version = Version::empty(alloc, shape)?;
+    let first = post(alloc, shape, 1, 7, 3, 1)?;
+    let second = post(alloc, shape, 2, 7, 255, 4)?;
+    let version = counted::<Brand>(&version, alloc, (&first, &second), Blank::new(1))?;
+    let want = [Place {
+        slot: 0,
+        doc: DocId(7),
+        id: named(2),
+    }];
+    assert!(rt; version.manifest(alloc)?.items() == want.as_slice());
+    assert!(rt; version.column_tag(0).bytes() == [4; 16]);
+    assert!(rt; version.column_tag(255).bytes() == [4; 16]);
     Ok(())
 }
