@@ -1,22 +1,25 @@
 -- What a search finds is within the ranges of a message.
-use Rattle.std.proofs.Common.{◌≡◌, ℕ, ◌≤◌, ◌+◌, Bool, true, false, cond, List, [], ◌∷◌, ◌++◌, length, map, take, fold, Option, Some, None, is_none, position, ltb, arith, ap, ◌∙◌, sym, subst}
-use Rattle.std.specs.List.{AllByRecursion}
-use Rattle.std.proofs.lemmas.List.{length-map}
-use Rattle.dory_base.specs.Dims.{Dims}
+use Rattle.std.proofs.Common.{◌≡◌, ℕ, ◌<◌, ◌≤◌, ◌+◌, ◌^◌, Bool, true, false, cond, List, [], ◌∷◌, ◌++◌, length, map, take, fold, Option, Some, None, is_none, position, ltb, arith, ap, ◌∙◌, refl, sym, subst}
+use Rattle.std.specs.List.{All, AllByRecursion}
+use Rattle.std.proofs.lemmas.List.{length-map, length-take-le}
+use Rattle.std.proofs.lemmas.List.Elements.{recursion_from_All}
 use Rattle.dory_base.specs.declared.ids.DocId.{DocId}
 use Rattle.dory_base.specs.declared.entry.Entry.{Entry}
 use Rattle.dory_base.specs.declared.entry.Change.{Change}
 use Rattle.dory_base.specs.declared.entry.Change.TheVariants.{Post, Remove}
-use Rattle.dory_base.specs.declared.found.Place.{Place}
 use Rattle.dory_base.specs.declared.found.Sum.{Sum}
+use Rattle.dory_base.specs.declared.found.Found.{Found}
+use Rattle.dory_base.specs.Sum.{parity, row_of, sum_of}
 use Rattle.dory_base.specs.History.{version_of}
 use Rattle.dory_base.specs.Step.{IsId, State, IsState, ids_of}
 use Rattle.dory_base.proofs.StepLaws.{history_is}
-use Rattle.dory_base.specs.Table.{Slots, has_doc, placed, emptied, changed, step, live_from, live_of, place_of, manifest_of}
+use Rattle.dory_base.specs.Table.{Slots, has_doc, placed, emptied, changed, step, table_of, live_from, live_of, place_of, manifest_of}
 use Rattle.dory_base.specs.TableMeaning.{Kept, IsKept, StandsFor}
 use Rattle.dory_base.proofs.TableLaws.{manifest_rises, length-live}
-use Rattle.dory_dpf.specs.PointKey.{PointKey}
-use Rattle.dory_wire.specs.Spelling.{IsLine, IsSum, IsFound, AreKeys}
+use Rattle.dory_scan.specs.Found.{found_in}
+use Rattle.dory_dpf.specs.PointKey.{PointKey, shares_of}
+use Rattle.dory_wire.specs.Read.{found_of}
+use Rattle.dory_wire.specs.Spelling.{IsLine, IsSum, IsFound}
 use Rattle.dory_domain.specs.Held.{IsNamed}
 use Rattle.dory_domain.proofs.Lists.{all_more, all_set, all_take}
 
@@ -73,20 +76,39 @@ manifest_lines s number table is named stands kept =
 few_lines : (table : Kept) → IsKept table → length (manifest_of table.slots) ≤ 4096
 few_lines table kept = omega (arith, kept.few, length-live 0 table.slots, length-map (live_of table.slots) place_of)
 
-pub found_range : (s : State) (number : ℕ) (table : Kept) (manifest : List Place) (keys : List PointKey) (f : PointKey → Sum) (sums : List Sum)
+summed : (slots : Slots) (selectors : List (List Bool)) → AllByRecursion (λ (s : Sum). s.tag < 2 ^ 128) (map (sum_of slots) selectors) → AllByRecursion (IsSum (length (manifest_of slots))) (map (sum_of slots) selectors)
+summed slots [] all = tt
+summed slots (s ∷ selectors) all =
+    (record { bits = length-map (live_of slots) (λ l. parity s (row_of l.entry.change)) ∙ sym (length-map (live_of slots) place_of); tag = all.0 }, summed slots selectors all.1)
+
+-- what a scan of a version finds, for at most 8 selectors
+pub found_range : (s : State) (number : ℕ) (table : Kept) (selectors : List (List Bool)) (f : Found)
     → IsState s → AllByRecursion IsNamed s.history → number ≤ length s.history
-    → StandsFor table (version_of number s.history) → IsKept table → table.shape ≡ s.shape
-    → manifest ≡ manifest_of table.slots → AreKeys s.shape keys → sums ≡ map f keys → AllByRecursion (IsSum (length (manifest_of table.slots))) sums
-    → IsFound (record { version = number; manifest = manifest; sums = sums })
-found_range s number table manifest keys f sums is named low stands kept same lines are summed each =
-    let probes : table.shape.probes ≡ s.shape.probes = ap (λ (d : Dims). d.probes) same in
-    let many : length sums ≡ length keys = ap (length {A = Sum}) summed ∙ length-map keys f in
-    let whole : IsFound (record { version = number; manifest = manifest_of table.slots; sums = sums }) = record {
+    → StandsFor table (version_of number s.history) → IsKept table → length selectors ≤ 8
+    → f ≡ found_in table selectors → All (λ (s : Sum). s.tag < 2 ^ 128) f.sums → IsFound f
+found_range s number table selectors f is named low stands kept few found tags =
+    let number_is : table.number ≡ number = stands.number_is ∙ length-take-le number s.history low in
+    let each : All (λ (s : Sum). s.tag < 2 ^ 128) (map (sum_of table.slots) selectors) = subst (λ (g : Found). All (λ (s : Sum). s.tag < 2 ^ 128) g.sums) found tags in
+    let whole : IsFound (found_in table selectors) = record {
       version = omega (arith, (history_is s is).few);
       lines = manifest_lines s number table is named stands kept;
       rising = manifest_rises table.slots;
       many = few_lines table kept;
-      probes = omega (arith, kept.dims.few, are.many);
-      sums = each;
+      probes = omega (arith, length-map selectors (sum_of table.slots));
+      sums = summed table.slots selectors (recursion_from_All (λ (s : Sum). s.tag < 2 ^ 128) (map (sum_of table.slots) selectors) each);
     } in
-    subst (λ (ps : List Place). IsFound (record { version = number; manifest = ps; sums = sums })) (sym lines) whole
+    subst IsFound (sym found) whole
+
+map_twice : (slots : Slots) (g : PointKey → List Bool) (keys : List PointKey) → map (sum_of slots) (map g keys) ≡ map (λ key. sum_of slots (g key)) keys
+map_twice slots g [] = refl
+map_twice slots g (k ∷ keys) = ap (λ (ss : List Sum). sum_of slots (g k) ∷ ss) (map_twice slots g keys)
+
+-- what a scan of a version finds is what the version holds
+pub found_is : (history : List Entry) (number : ℕ) (keys : List PointKey) (table : Kept) (selectors : List (List Bool))
+    → number ≤ length history → StandsFor table (version_of number history) → selectors ≡ map shares_of keys → found_in table selectors ≡ found_of history number keys
+found_is history number keys table selectors low stands are =
+    let slots : Slots = table_of (version_of number history) in
+    let number_is : table.number ≡ number = stands.number_is ∙ length-take-le number history low in
+    let sums : map (sum_of table.slots) selectors ≡ map (λ key. sum_of slots (shares_of key)) keys =
+    ap (λ (s : Slots). map (sum_of s) selectors) stands.slots_are ∙ ap (map (sum_of slots)) are ∙ map_twice slots shares_of keys in
+    (λ i. record { version = number_is i; manifest = manifest_of (stands.slots_are i); sums = sums i })

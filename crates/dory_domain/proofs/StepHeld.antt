@@ -1,6 +1,7 @@
 -- A folder stays what it has to be when an update is staged or joins its history.
-use Rattle.std.proofs.Common.{◌≡◌, ℕ, ◌<◌, ◌≤◌, List, [], ◌∷◌, ◌++◌, length, get_or, Option, Some, None, Ok, arith, ap, ◌∙◌, sym, subst, refl, inl, inr}
+use Rattle.std.proofs.Common.{◌≡◌, ℕ, ◌<◌, ◌≤◌, List, [], ◌∷◌, ◌++◌, length, Option, Some, None, Ok, arith, ap, ◌∙◌, sym, subst, refl, inl, inr, length-append}
 use Rattle.std.specs.Prelude.{slice_set}
+use Rattle.std.specs.List.{AllByRecursion}
 use Rattle.std.proofs.lemmas.Bool.{cases_eq}
 use Rattle.dory_base.specs.Dims.{Dims, IsDims}
 use Rattle.dory_base.specs.declared.ids.Side.{Side}
@@ -11,12 +12,11 @@ use Rattle.dory_base.specs.declared.entry.Change.TheVariants.{Post, Remove}
 use Rattle.dory_base.specs.declared.plan.StagePlan.TheVariants.{New}
 use Rattle.dory_base.specs.History.{IsWhole, IsChangeOf, IsEntryOf}
 use Rattle.dory_base.specs.Log.{Log, empty_log, look_stage, staged_by, staged_as}
-use Rattle.dory_base.specs.Step.{State, IsState, log_of, after, log_after, log_appended, state_appended}
+use Rattle.dory_base.specs.Step.{IsState, log_of, after, log_after, log_appended, state_appended}
 use Rattle.dory_base.specs.Step.Event.{Staged, Appended}
 use Rattle.dory_base.proofs.LogLaws.{MayHappen, IsFresh, new_seen, order_seen, follow_seen, place_set_same, place_set_other, place_within, with_id_some, all_snoc, nothing_staged}
-use Rattle.dory_base.proofs.StepLaws.{log_of_after, after_is_state, empty_is_state}
+use Rattle.dory_base.proofs.StepLaws.{history_is, log_of_after, after_is_state, empty_is_state}
 use Rattle.dory_log.specs.Spared.{MayCommit}
-use Rattle.dory_domain.proofs.Lists.{all_at}
 use Rattle.dory_wire.specs.Spelling.{IsEntry, IsChange}
 use Rattle.dory_domain.specs.Held.{Held, IsHeld, IsNamed, IsNamedPlace, in_state, opened}
 use Rattle.dory_domain.specs.declared.config.FolderConfig.{FolderConfig}
@@ -75,6 +75,19 @@ pub held_appended : (f : Held) (number : ℕ) (id : UpdateId) → IsHeld f → M
 held_appended f number id held next =
     appended_held f id (staged_as f.state.staged id) refl held (after_is_state f.state (Appended id) held.state (next_may (log_of f.state) number id next).0 tt)
 
+all_last : {X : Type 0} (P : X → Type 0) (xs : List X) (y : X) → AllByRecursion P (xs ++ y ∷ []) → P y
+all_last P [] y all = all.0
+all_last P (x ∷ xs) y all = all_last P xs y all.1
+
+-- an update that may come next is of the folder's shape, and there is room for it
+pub next_fits : (f : Held) (number : ℕ) (id : UpdateId) (e : Entry) → IsHeld f → MayCommit (log_of f.state) number id → staged_as f.state.staged id ≡ Some e
+    → (length f.state.history < 1048576) × IsChangeOf f.state.shape e.change
+next_fits f number id e held may there =
+    let next : IsState (state_appended f.state id (Some e)) = subst (λ (o : Option Entry). IsState (state_appended f.state id o)) there (held_appended f number id held may).state in (
+      omega (arith, (history_is (state_appended f.state id (Some e)) next).few, length-append f.state.history (e ∷ [])),
+      (all_last (IsEntryOf f.state.shape) f.state.history e next.entries).change,
+    )
+
 -- a folder as it begins
 pub held_opened : (role : Side) (c : FolderConfig) → IsDims c.shape → 1 ≤ c.retained → c.retained ≤ 256 → IsHeld (opened role c)
 held_opened role c dims some few = record {
@@ -115,10 +128,6 @@ parts_appended number shape retained history history' log log' n id e whole may 
     let mine : next ≡ log_of (state_appended f.state id (Some e)) = ap (λ (l : Log). log_appended l id (Some e)) whole.1 ∙ sym equal in
     subst (λ (h : List Entry). AreParts number shape retained h log') (sym more)
     (subst (AreParts number shape retained (history ++ e ∷ [])) (sym log_is) (held, mine))
-
--- a post or removal of the history has the folder's shape
-pub change_at : (s : State) (k : ℕ) (e : Entry) → IsState s → k < length s.history → ((d : Entry) → e ≡ get_or s.history k d) → IsChangeOf s.shape e.change
-change_at s k e is low at = subst (λ (x : Entry). IsChangeOf s.shape x.change) (sym (at e)) (all_at (IsEntryOf s.shape) s.history k e low is.entries).change
 
 -- a folder as it begins
 pub parts_opened : (number : ℕ) (shape : Dims) (retained : ℕ) (history : List Entry) (log : Log) (role : Side) → IsDims shape → 1 ≤ retained → retained ≤ 256 → log ≡ empty_log role shape → history ≡ [] → AreParts number shape retained history log

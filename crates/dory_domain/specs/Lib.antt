@@ -1,3 +1,4 @@
 pub mod Config
 pub mod Held
 pub mod Setup
+pub mod Versions

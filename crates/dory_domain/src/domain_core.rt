@@ -7,25 +7,32 @@ ghost use Rattle.dory_domain.specs.Held.{Held, IsHeld, Serves, KeptIfRefused, op
 use crate::config::{FolderConfig, OpenFault, config_fault};
 use crate::folders::Folders;
 use dory_base::{FolderId, NoMemory, Side};
+use dory_kernel::RowKernel;
 use dory_wire::{Reply, Request};
 use std::alloc::Global;
 
-/// A domain's folders. It does nothing but answer requests.
+/// A domain's folders, and the kernel by which it scans them. It does nothing but answer requests.
 #[derive(Drop)]
 pub struct DomainCore {
     pub folders: Folders,
+    kernel: RowKernel,
 }
 
 impl DomainCore {
     /// A domain of this role with these folders, each with no update.
-    pub fn new(alloc: Global, role: Side, folders: &[FolderConfig]) -> Result<DomainCore, OpenFault>
+    pub fn new(
+        alloc: Global,
+        role: Side,
+        folders: &[FolderConfig],
+        kernel: RowKernel,
+    ) -> Result<DomainCore, OpenFault>
         ensures fault { IsRefusedBy (config_fault_of folders.now) result }
         ensures empty { IfOk result (λ core. core.folders ≡ map (opened role) folders.now) }
     {
         match config_fault(folders) {
             Some(fault) => Err(OpenFault::BadConfig(fault)),
             None => match Folders::new(alloc, role, folders) {
-                Ok(folders) => Ok(DomainCore { folders }),
+                Ok(folders) => Ok(DomainCore { folders, kernel }),
                 Err(NoMemory) => Err(OpenFault::NoMemory),
             },
         }
@@ -40,7 +47,9 @@ impl DomainCore {
         ensures unchanged { KeptIfRefused self.old.folders self.new.folders result.what }
         ensures reply { IsReply result }
     {
-        let what = self.folders.step(alloc, request.folder, &request.want);
+        let what = self
+            .folders
+            .step(alloc, request.folder, &request.want, &self.kernel);
         Reply {
             ask: request.ask,
             what,

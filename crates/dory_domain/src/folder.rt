@@ -10,25 +10,28 @@ ghost use Rattle.dory_base.specs.Step.Event.{Staged, Appended};
 ghost use Rattle.dory_base.specs.TableMeaning.{StandsFor};
 ghost use Rattle.dory_base.specs.declared.refusal.Refusal.TheVariants.{NoMemory as OutOfMemory};
 ghost use Rattle.dory_wire.specs.declared.message.What.TheVariants.{Refused};
-ghost use Rattle.dory_wire.specs.Read.{found_of, search_of, IsReadAs};
+ghost use Rattle.dory_wire.specs.Read.{found_of, search_of, oldest_of, IsReadAs};
 ghost use Rattle.dory_wire.specs.Spelling.{AreKeys, IsEntry, IsId, IsNumber, IsWant, IsWhat, IsFound};
 ghost use Rattle.dory_wire.specs.StepReply.{Steps};
 ghost use Rattle.dory_domain.specs.Held.{IsHeld, opened, in_state};
 ghost use Rattle.dory_log.specs.Spared.{MayCommit};
 
 use crate::config::FolderConfig;
-use crate::probes::sums;
+use crate::probes::selectors;
 use crate::updates::Updates;
+use crate::versions::{first_version, keep, newest};
 use dory_base::{Entry, FolderId, Found, NoMemory, Refusal, Shape, Side, SlotTable, UpdateId};
+use dory_chunks::Version;
 use dory_dpf::Keys;
+use dory_kernel::RowKernel;
 use dory_log::{FolderLog, Plan, StagePlan};
-use dory_table::Table;
+use dory_scan::scan;
 use dory_wire::{Want, What};
 use std::alloc::Global;
 use std::marker::Model;
 use std::sync::Arc;
 
-/// A folder's shape, how many versions it retains, its log and its history.
+/// A folder's shape, how many versions it retains, its log, its history, and the versions that it retains.
 #[derive(Drop)]
 pub struct Folder {
     folder: FolderId,
@@ -36,12 +39,14 @@ pub struct Folder {
     retained: u32,
     log: FolderLog,
     history: Updates,
+    versions: Vec<Version>,
 }
 
 impl Model for Folder {
     ghost use Rattle.std.specs.Prelude.{◌≡◌};
     ghost use Rattle.dory_base.specs.Step.{State, log_of};
     ghost use Rattle.dory_domain.specs.Held.{Held, IsHeld};
+    ghost use Rattle.dory_domain.specs.Versions.{AreVersions};
 
     ghost Value = { Held };
 
@@ -53,7 +58,7 @@ impl Model for Folder {
     ghost invariant = { λ f. let held : Held = record {
       number = f.folder.0;
       state = record { role = f.log.log.role; shape = f.shape; retained = f.retained; history = f.history; staged = f.log.log.staged };
-    } in IsHeld held × (f.log.log ≡ log_of held.state) };
+    } in IsHeld held × (f.log.log ≡ log_of held.state) × AreVersions f.shape f.retained f.history f.versions.items };
 }
 
 /// Memory ran out.
@@ -74,12 +79,14 @@ impl Folder {
     {
         let _columns = config.shape.columns();
         let log = FolderLog::new(alloc, role, config.shape)?;
+        let versions = first_version(alloc, config.shape, config.retained)?;
         Ok(Folder {
             folder: config.folder,
             shape: config.shape,
             retained: config.retained,
             log,
             history: Updates::new(alloc),
+            versions,
         })
     }
 
@@ -99,7 +106,7 @@ impl Folder {
     }
 
     /// One step at a request: the answer, and what the folder then is. A refusal changes nothing.
-    pub fn step(&mut self, alloc: Global, want: &Want) -> What
+    pub fn step(&mut self, alloc: Global, want: &Want, kernel: &RowKernel) -> What
         requires { IsWant want.now }
         ensures steps { Steps self.old.state want.now result self.new.state }
         ensures number { self.new.number ≡ self.old.number }
@@ -113,7 +120,7 @@ impl Folder {
                 version,
                 shape,
                 keys,
-            } => self.search(alloc, *version, *shape, keys),
+            } => self.search(alloc, *version, *shape, keys, kernel),
             Want::Which { number } => self.which(*number),
             Want::Stage { entry } => self.stage(alloc, entry),
             Want::Order { id } => self.order(alloc, *id),
@@ -122,7 +129,14 @@ impl Folder {
     }
 
     /// The answer to a search.
-    fn search(&self, alloc: Global, version: u32, asked: Shape, keys: &Keys) -> What
+    fn search(
+        &self,
+        alloc: Global,
+        version: u32,
+        asked: Shape,
+        keys: &Keys,
+        kernel: &RowKernel,
+    ) -> What
         requires { AreKeys asked keys.now }
         ensures value { IsReadAs (search_of self.now.state.shape self.now.state.retained self.now.state.history version asked keys.now) result }
         ensures range { IsWhat result }
@@ -139,41 +153,40 @@ impl Folder {
             let code = Refusal::Unretained { oldest, newest };
             return What::Refused { code };
         }
-        match self.found(alloc, version, keys) {
+        match self.found(alloc, version, keys, kernel) {
             Ok(found) => What::Found { found },
             Err(NoMemory) => no_memory(),
         }
     }
 
-    /// What a version holds, with a sum for each key.
-    fn found(&self, alloc: Global, version: u32, keys: &Keys) -> Result<Found, NoMemory>
-        requires version { version ≤ length self.now.state.history }
+    /// What a version that is retained holds, with a sum for each key.
+    fn found(
+        &self,
+        alloc: Global,
+        version: u32,
+        keys: &Keys,
+        kernel: &RowKernel,
+    ) -> Result<Found, NoMemory>
+        requires oldest { oldest_of self.now.state.retained (length self.now.state.history) ≤ version }
+        requires newest { version ≤ length self.now.state.history }
         requires keys { AreKeys self.now.state.shape keys.now }
         ensures value { IfOk result (λ f. f ≡ found_of self.now.state.history version keys.now) }
         ensures range { IfOk result IsFound }
     {
-        let table = self.version(alloc, version)?;
-        let manifest = table.manifest(alloc)?;
-        let sums = sums(alloc, &table, self.shape, keys)?;
-        Ok(Found {
-            version,
-            manifest,
-            sums,
-        })
+        let selectors = selectors(alloc, self.shape, keys)?;
+        let found = scan(alloc, self.version(version), &selectors, kernel)?;
+        Ok(found)
     }
 
-    /// The table of a version: what was committed up to it, update by update.
-    fn version(&self, alloc: Global, version: u32) -> Result<Table, NoMemory>
-        requires { version ≤ length self.now.state.history }
-        ensures stands { IfOk result (λ t. StandsFor t (version_of version self.now.state.history)) }
-        ensures shape { IfOk result (λ t. t.shape ≡ self.now.state.shape) }
+    /// A version that is retained.
+    fn version(&self, number: u32) -> &Version
+        requires oldest { oldest_of self.now.state.retained (length self.now.state.history) ≤ number }
+        requires newest { number ≤ length self.now.state.history }
+        ensures stands { StandsFor result.now (version_of number self.now.state.history) }
+        ensures shape { result.now.shape ≡ self.now.state.shape }
     {
-        let mut table = Table::empty(alloc, self.shape)?;
-        for at in 0..version as usize {
-            let entry = self.history.at(at).copy(alloc)?;
-            table.apply(alloc, entry)?;
-        }
-        Ok(table)
+        let age = (self.length() - number) as usize;
+        &self.versions[self.versions.len() - 1 - age]
     }
 
     /// Which update has a number.
@@ -265,8 +278,11 @@ impl Folder {
             return Err(NoMemory);
         };
         let update = Arc::try_clone(staged)?;
+        let next = newest(&self.versions).next_version(alloc, &update)?;
+        self.versions.reserve(1)?;
         self.log.reserve(alloc)?;
         self.history.push(update)?;
+        keep(&mut self.versions, next, self.retained);
         self.log.put_commit(number, id);
         Ok(())
     }

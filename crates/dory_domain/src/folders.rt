@@ -7,6 +7,7 @@ ghost use Rattle.dory_domain.specs.Held.{Held, IsHeld, Serves, KeptIfRefused, op
 use crate::config::FolderConfig;
 use crate::folder::Folder;
 use dory_base::{FolderId, NoMemory, Refusal, Side};
+use dory_kernel::RowKernel;
 use dory_wire::{Want, What};
 use std::alloc::Global;
 use std::marker::Model;
@@ -66,7 +67,7 @@ impl Folders {
     }
 
     /// The step of the folder of this number, or that there is no such folder.
-    pub fn step(&mut self, alloc: Global, folder: FolderId, want: &Want) -> What
+    pub fn step(&mut self, alloc: Global, folder: FolderId, want: &Want, kernel: &RowKernel) -> What
         requires { IsWant want.now }
         ensures serves { Serves self.old folder.0 want.now result self.new }
         ensures held { (f : Held) → folder_in self.old folder.0 ≡ Some f → IsHeld f }
@@ -74,7 +75,7 @@ impl Folders {
         ensures range { IsWhat result }
     {
         match self.place(folder) {
-            Some(at) => self.folders[at].step(alloc, want),
+            Some(at) => self.folders[at].step(alloc, want, kernel),
             None => What::Refused {
                 code: Refusal::NoFolder,
             },

@@ -1,21 +1,19 @@
-//! A domain as a pure core: its folders with their histories, and its answer to each request.
+//! A domain as a pure core: its folders with their histories and the versions that they retain, and its answer to each request.
 #![tactic(auto)]
 
 mod config;
 mod domain_core;
 mod folder;
 mod folders;
-mod parity;
 mod probes;
 mod setup;
-mod sums;
 #[cfg(test)]
 mod tests;
 mod updates;
+mod versions;
 
 pub use config::{ConfigFault, FolderConfig, OpenFault};
 pub use domain_core::DomainCore;
 pub use folder::Folder;
 pub use folders::Folders;
 pub use setup::{Config, FolderList};
-pub use sums::sum;

@@ -1,16 +1,15 @@
-//! A domain by worked examples: sums over two rows, lists of folders, and reads of a short history.
+//! A domain by worked examples: lists of folders, reads of a short history, and updates that are staged and committed.
 ghost use Rattle.std.specs.Prelude.{◌≡◌, ◌≤◌, ◌+◌, length, IfOk, if◌then◌else◌};
-ghost use Rattle.dory_base.specs.History.{IsChangeOf};
 ghost use Rattle.dory_dpf.specs.PointKey.{IsKeyOf};
 ghost use Rattle.dory_wire.specs.Spelling.{IsEntry, IsWant};
 
-use crate::{ConfigFault, DomainCore, FolderConfig, OpenFault, sum};
+use crate::{ConfigFault, DomainCore, FolderConfig, OpenFault};
 use dory_base::{
-    AskId, Bits, Change, DocId, Entry, FolderId, MemberId, NoMemory, Refusal, Shape, Side,
-    SlotTable, Tag, Tags, UpdateId,
+    AskId, Bits, Change, DocId, Entry, FolderId, MemberId, NoMemory, Refusal, Shape, Side, Tag,
+    Tags, UpdateId,
 };
 use dory_dpf::{Key, Keys, gen_long, gen_short};
-use dory_table::Table;
+use dory_kernel::{RowKernel, plain_parity};
 use dory_wire::{Request, Want, What};
 use std::alloc::Global;
 
@@ -24,52 +23,6 @@ fn bits_at(alloc: Global, first: u8, second: u8) -> Result<Bits, NoMemory>
     Ok(bits)
 }
 
-// A post with two set cells, whose tags all have this byte.
-fn post(alloc: Global, shape: Shape, doc: u32, cells: (u8, u8), byte: u8) -> Result<Entry, NoMemory>
-    requires { shape.depth ≡ 8 }
-    ensures { IfOk result (λ e. IsChangeOf shape e.change) }
-{
-    let row = bits_at(alloc, cells.0, cells.1)?;
-    let tags = vec![in alloc; Tag([byte; 16]); 256]?;
-    Ok(Entry {
-        id: UpdateId {
-            member: MemberId(0),
-            serial: doc as u64,
-        },
-        doc: DocId(doc),
-        change: Change::Post {
-            shape,
-            row,
-            tags: Tags::of(tags),
-        },
-    })
-}
-
-#[test]
-fn a_sum_has_a_parity_for_each_slot_and_all_selected_tags(rt: HostRuntime) -> Result<(), NoMemory> {
-    let alloc = rt.alloc();
-    let shape = Shape::new(8, 2).expect(&rt, "a shape in range");
-    let table = Table::empty(alloc, shape)?;
-    let table = table.next_version(alloc, &post(alloc, shape, 7, (0, 255), 1)?)?;
-    let table = table.next_version(alloc, &post(alloc, shape, 8, (255, 255), 2)?)?;
-    for (first, second, of_7, of_8, byte) in [
-        (255, 255, true, true, 3),
-        (0, 255, false, true, 0),
-        (5, 5, false, false, 3),
-    ] {
-        let selector = bits_at(alloc, first, second)?;
-        let sum = sum(alloc, &table, &selector)?;
-        assert_eq!(rt; sum.bits.len(), 2);
-        assert_eq!(rt;
-            (sum.bits.get(0), sum.bits.get(1)),
-            (of_7, of_8),
-            "at {first} and {second}"
-        );
-        assert!(rt; sum.tag.bytes() == [byte; 16]);
-    }
-    Ok(())
-}
-
 fn config(folder: u32, shape: Shape, retained: u32) -> FolderConfig
     ensures { result ≡ record { folder = record { 0 = folder }; shape = shape; retained = retained } }
 {
@@ -81,7 +34,7 @@ fn config(folder: u32, shape: Shape, retained: u32) -> FolderConfig
 }
 
 fn fault_of(alloc: Global, configs: &[FolderConfig]) -> Option<ConfigFault> {
-    match DomainCore::new(alloc, Side::Lead, configs) {
+    match DomainCore::new(alloc, Side::Lead, configs, RowKernel::new(plain_parity)) {
         Err(OpenFault::BadConfig(fault)) => Some(fault),
         _ => None,
     }
@@ -125,17 +78,23 @@ fn answer(alloc: Global, core: &mut DomainCore, folder: u32, want: Want) -> What
 }
 
 // A post of a row with two set cells and zero tags.
-fn plain_post(alloc: Global, shape: Shape, doc: u32) -> Result<Entry, NoMemory>
+fn post_with(
+    alloc: Global,
+    shape: Shape,
+    serial: u32,
+    doc: u32,
+    cells: (u8, u8),
+) -> Result<Entry, NoMemory>
     requires shape { shape ≡ record { depth = 8; probes = 2 } }
-    requires some { 1 ≤ doc }
+    requires some { 1 ≤ serial }
     ensures { IfOk result IsEntry }
 {
-    let row = bits_at(alloc, 0, 255)?;
+    let row = bits_at(alloc, cells.0, cells.1)?;
     let tags = vec![in alloc; Tag::zero(); shape.columns()]?;
     Ok(Entry {
         id: UpdateId {
             member: MemberId(0),
-            serial: doc as u64,
+            serial: serial as u64,
         },
         doc: DocId(doc),
         change: Change::Post {
@@ -165,19 +124,19 @@ fn empty_core(
     retained: u32,
 ) -> Result<DomainCore, NoMemory> {
     let configs = [config(1, shape, retained)];
-    match DomainCore::new(alloc, role, &configs) {
+    match DomainCore::new(alloc, role, &configs, RowKernel::new(plain_parity)) {
         Ok(core) => Ok(core),
         Err(_) => Err(NoMemory),
     }
 }
 
 // A follower whose folder 1 has so many posts.
-fn core_of(alloc: Global, shape: Shape, retained: u8, count: u8) -> Result<DomainCore, NoMemory>
+fn core_of(alloc: Global, shape: Shape, retained: u32, count: u8) -> Result<DomainCore, NoMemory>
     requires { shape ≡ record { depth = 8; probes = 2 } }
 {
-    let mut core = empty_core(alloc, Side::Follow, shape, retained as u32)?;
+    let mut core = empty_core(alloc, Side::Follow, shape, retained)?;
     for number in 1..count as u32 + 1 {
-        let entry = plain_post(alloc, shape, number)?;
+        let entry = post_with(alloc, shape, number, number, (0, 255))?;
         commit(alloc, &mut core, number, entry);
     }
     Ok(core)
@@ -277,6 +236,49 @@ fn the_shares_of_both_forms_add_up_to_the_cells(rt: HostRuntime) -> Result<(), N
     Ok(())
 }
 
+// The first line's cells in columns 0 and 7 at a version, by the answers to the lead's keys and to the follower's.
+fn cells_at(
+    alloc: Global,
+    core: &mut DomainCore,
+    shape: Shape,
+    version: u8,
+) -> Result<Option<(bool, bool)>, NoMemory>
+    requires low { 8 ≤ shape.depth }
+    requires high { shape.depth ≤ 11 }
+    requires probes { shape.probes ≡ 2 }
+{
+    let lead = Making {
+        follow: false,
+        short: true,
+    };
+    let follow = Making {
+        follow: true,
+        short: true,
+    };
+    let lead = answer(alloc, core, 1, search_by(alloc, version, shape, lead)?);
+    let follow = answer(alloc, core, 1, search_by(alloc, version, shape, follow)?);
+    match (first_bits(&lead), first_bits(&follow)) {
+        (Some((a, b)), Some((c, d))) => Ok(Some((a ^ c, b ^ d))),
+        _ => Ok(None),
+    }
+}
+
+#[test]
+fn an_earlier_version_keeps_the_row_that_a_later_one_replaced(
+    rt: HostRuntime,
+) -> Result<(), NoMemory> {
+    let alloc = rt.alloc();
+    let shape = Shape::new(8, 2).expect(&rt, "a shape in range");
+    let mut core = empty_core(alloc, Side::Follow, shape, 2)?;
+    let first = post_with(alloc, shape, 1, 7, (0, 255))?;
+    commit(alloc, &mut core, 1, first);
+    let second = post_with(alloc, shape, 2, 7, (7, 255))?;
+    commit(alloc, &mut core, 2, second);
+    assert!(rt; cells_at(alloc, &mut core, shape, 1)? == Some((true, false)));
+    assert!(rt; cells_at(alloc, &mut core, shape, 2)? == Some((false, true)));
+    Ok(())
+}
+
 fn is_at(what: &What, want: u32) -> bool {
     match what {
         What::At { length } => *length == want,
@@ -313,10 +315,49 @@ fn a_search_finds_what_is_retained_and_no_more(rt: HostRuntime) -> Result<(), No
         (1, 5, 4, (false, 5, 5)),
         (1, 0, 0, (true, 0, 0)),
         (1, 0, 1, (false, 0, 0)),
+        (256, 5, 0, (true, 0, 0)),
+        (256, 5, 3, (true, 3, 3)),
     ] {
         let mut core = core_of(alloc, shape, retained, count)?;
         let what = answer(alloc, &mut core, 1, search(alloc, version, shape)?);
         assert_eq!(rt; outcome(&what), want, "version {version} of {count}");
+    }
+    Ok(())
+}
+
+// A lead whose folder 1 has so many removals.
+fn core_with(alloc: Global, shape: Shape, retained: u32, count: u32) -> Result<DomainCore, NoMemory>
+    requires { count ≤ 1000 }
+{
+    let mut core = empty_core(alloc, Side::Lead, shape, retained)?;
+    for serial in 1..count + 1 {
+        let id = UpdateId {
+            member: MemberId(0),
+            serial: serial as u64,
+        };
+        let entry = Entry {
+            id,
+            doc: DocId(7),
+            change: Change::Remove,
+        };
+        answer(alloc, &mut core, 1, Want::Stage { entry });
+        answer(alloc, &mut core, 1, Want::Order { id });
+    }
+    Ok(core)
+}
+
+#[test]
+fn the_oldest_of_256_versions_is_found(rt: HostRuntime) -> Result<(), NoMemory> {
+    let alloc = rt.alloc();
+    let shape = Shape::new(8, 2).expect(&rt, "a shape in range");
+    let mut core = core_with(alloc, shape, 256, 258)?;
+    for (version, want) in [
+        (2, (false, 3, 258)),
+        (3, (true, 3, 0)),
+        (255, (true, 255, 0)),
+    ] {
+        let what = answer(alloc, &mut core, 1, search(alloc, version, shape)?);
+        assert_eq!(rt; outcome(&what), want, "version {version}");
     }
     Ok(())
 }

@@ -34,20 +34,6 @@ impl Updates {
         }
     }
 
-    pub fn len(&self) -> usize
-        ensures { result ≡ length self.now }
-    {
-        self.updates.len()
-    }
-
-    /// The update at a place.
-    pub fn at(&self, place: usize) -> &Entry
-        requires { place < length self.now }
-        ensures { (d : Update) → result.now ≡ slice_index_or self.now place d }
-    {
-        &self.updates[place]
-    }
-
     /// One more update, or no change.
     pub fn push(&mut self, update: Arc<Entry>) -> Result<(), NoMemory>
         ensures done { OnOk result (self.new ≡ self.old ++ arc_value update ∷ []) }

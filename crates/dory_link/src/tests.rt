@@ -2,6 +2,7 @@
 use crate::{DomainLink, Link, LinkError};
 use dory_base::{FolderId, NoMemory, Shape, Side};
 use dory_domain::{DomainCore, FolderConfig};
+use dory_kernel::{RowKernel, plain_parity};
 
 #[test]
 fn what_is_no_request_is_a_fault_and_is_kept(rt: HostRuntime) -> Result<(), NoMemory> {
@@ -12,7 +13,10 @@ fn what_is_no_request_is_a_fault_and_is_kept(rt: HostRuntime) -> Result<(), NoMe
         shape,
         retained: 2,
     }];
-    let core = DomainCore::new(alloc, Side::Lead, &configs).expect(&rt, "folders in range");
+    let core = DomainCore::new(alloc, Side::Lead, &configs, RowKernel::new(plain_parity)).expect(
+        &rt,
+        "folders in range",
+    );
     let mut link = DomainLink::new(alloc, core, &[1])?;
     let failed = link.ask(alloc, &[0, 0, 0, 1, 1]);
     assert!(rt; matches!(failed, Err(LinkError::Failed)));
