@@ -4,8 +4,8 @@ ghost use Rattle.std.specs.Io.KnownBytes.{Appends};
 ghost use Rattle.dory_io.specs.Causes.{HasCause};
 ghost use Rattle.dory_session.specs.Ends.{Replies, end_of};
 
+use crate::domain::Domain;
 use crate::end::How;
-use dory_domain::DomainCore;
 use dory_io::{Sink, write_all};
 use dory_wire::{WireFault, decode_request, encode_reply};
 use std::alloc::Global;
@@ -23,20 +23,20 @@ fn fault_end(fault: WireFault) -> How
 }
 
 /// Writes the whole reply to a message. Nothing is written for one that is no request.
-pub fn reply_to<O: Sink>(
+pub fn reply_to<D: Domain, O: Sink>(
     alloc: Global,
-    core: &mut DomainCore,
+    core: &mut D,
     message: &[u8],
     out: &mut O,
 ) -> Result<(), How>
-    ensures replies { (part : List ℕ) × Appends (O.written out.old) (O.written out.new) part × Replies core.old.folders message.now part core.new.folders result }
+    ensures replies { (part : List ℕ) × Appends (O.written out.old) (O.written out.new) part × Replies (D.folders core.old) message.now part (D.folders core.new) result }
     ensures cause { HasCause (O.faults out.old) (O.faults out.new) (IsErrOf result How.OutputFault) }
 {
     let request = match decode_request(alloc, message) {
         Ok(request) => request,
         Err(fault) => return Err(fault_end(fault)),
     };
-    let reply = core.step(alloc, &request);
+    let reply = core.answer(alloc, &request);
     let frame = match encode_reply(alloc, &reply) {
         Ok(frame) => frame,
         Err(_) => return Err(How::NoMemory),

@@ -5,6 +5,7 @@ use crate::{How, SessionEnd, serve_core};
 use dory_base::{Failed, FolderId, NoMemory, Shape, Side};
 use dory_domain::{DomainCore, FolderConfig};
 use dory_io::{Sink, Source, VecSink, VecSource};
+use dory_kernel::{RowKernel, plain_parity};
 use std::alloc::{AllocError, Global};
 use std::test::Fail;
 
@@ -99,7 +100,7 @@ fn core(alloc: Global) -> Result<DomainCore, NoMemory> {
         shape,
         retained: 64,
     };
-    match DomainCore::new(alloc, Side::Lead, &[config]) {
+    match DomainCore::new(alloc, Side::Lead, &[config], RowKernel::new(plain_parity)) {
         Ok(core) => Ok(core),
         Err(_) => Err(NoMemory),
     }

@@ -8,9 +8,9 @@ use Rattle.dory_session.proofs.reply.reply_to.Goals as goal
 pub returns-clause-replies : goal.returns-clause-replies
 returns-clause-replies g c =
     let p = part_written _ _ c.deref.result.now c.in-Err-write_all.ensures.less in
-    let answered : IsAnswered c.args.core.now.folders c.args.message.now c.deref.result.now c.step-reply.new.self.folders = (
+    let answered : IsAnswered (g.D.Domain.folders c.args.core.now) c.args.message.now c.deref.result.now (g.D.Domain.folders c.answer-reply.new.self) = (
       c.in-Ok.request,
-      c.step-reply.result,
+      c.answer-reply.result,
       record {
         asked = search rules;
         ask = search rules;
@@ -23,9 +23,9 @@ returns-clause-replies g c =
 
 pub returns-in-Err-encode_reply-clause-replies : goal.returns-in-Err-encode_reply-clause-replies
 returns-in-Err-encode_reply-clause-replies g c =
-    let answered : IsAnswered c.args.core.now.folders c.args.message.now (frame_of (spelling_of_reply c.step-reply.result)) c.step-reply.new.self.folders = (
+    let answered : IsAnswered (g.D.Domain.folders c.args.core.now) c.args.message.now (frame_of (spelling_of_reply c.answer-reply.result)) (g.D.Domain.folders c.answer-reply.new.self) = (
       c.in-Ok.request,
-      c.step-reply.result,
+      c.answer-reply.result,
       record { asked = search rules; ask = search rules; range = search rules; spelled = refl; step = search rules },
     ) in
-    ([], nothing_written _, (refl, inr (frame_of (spelling_of_reply c.step-reply.result), answered)))
+    ([], nothing_written _, (refl, inr (frame_of (spelling_of_reply c.answer-reply.result), answered)))
