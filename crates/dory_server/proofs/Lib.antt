@@ -1,0 +1,3 @@
+pub mod FolderWords
+pub mod Written
+pub mod Served

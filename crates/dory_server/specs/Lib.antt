@@ -1,0 +1,5 @@
+pub mod Folder
+pub mod Line
+pub mod End
+pub mod Opening
+pub mod Served

@@ -1,0 +1,71 @@
+-- How a server opens: what its words decide, and the line that says where it is found.
+use Rattle.std.specs.Prelude.{ℕ, ◌≡◌, ◌⊎◌, ⊤, List, [], ◌++◌, codes, Option, Some, None, option_map, Result, Ok, Err}
+use Rattle.std.specs.Io.KnownBytes.{Appends}
+use Rattle.dory_io.specs.Bytes.{Tells}
+use Rattle.dory_io.specs.Given.{IsBoundFor}
+use Rattle.dory_io.specs.Output.{AppendsLess}
+use Rattle.dory_io.specs.Address.{address_text}
+use Rattle.dory_io.specs.declared.address.Address.{Address}
+use Rattle.dory_domain.specs.Setup.{setup_fault}
+use Rattle.dory_server.specs.declared.end.ServerEnd.{ServerEnd}
+use Rattle.dory_server.specs.declared.end.ServerEnd.TheVariants.{Usage, BadConfig, BindFault, OutputFault, Sessions, AcceptFault, NoMemory}
+use Rattle.dory_server.specs.declared.line.ServerLine.{ServerLine}
+use Rattle.dory_server.specs.declared.line.ServerWords.{ServerWords}
+use Rattle.dory_server.specs.declared.line.ServerWords.TheVariants as word
+
+-- the end that faulty words or a faulty configuration have
+abbrev pub fault_of : Result ServerLine ServerWords → Option ServerEnd
+fault_of (Ok line) = option_map BadConfig (setup_fault line.config.folders line.config.seats)
+fault_of (Err (word.At at)) = Some (Usage at)
+fault_of (Err word.NoMemory) = None
+
+-- such a fault is the end, unless memory ran out, and it is the end of nothing else
+abbrev pub OpensBy : Option ServerEnd → ServerEnd → Type 0
+OpensBy (Some fault) end = (end ≡ fault) ⊎ (end ≡ NoMemory)
+OpensBy None (Usage at) = ⊥
+OpensBy None (BadConfig fault) = ⊥
+OpensBy None BindFault = ⊤
+OpensBy None OutputFault = ⊤
+OpensBy None Sessions = ⊤
+OpensBy None AcceptFault = ⊤
+OpensBy None NoMemory = ⊤
+
+-- the line that says where a server is found: `ready `, the address, and a line end
+abbrev pub ready_text : Address → List ℕ
+ready_text address = codes "ready " ++ address_text address ++ codes "\n"
+
+-- this of the address that was bound for the one in the words, which the binder tells where it tells any
+abbrev pub OfBound : Result ServerLine ServerWords → Option Address → (Address → Type 0) → Type 0
+OfBound read bound said =
+    (line : ServerLine) × (address : Address) × (read ≡ Ok line) × IsBoundFor line.address address × Tells bound address × said address
+
+-- what was written by the end: the whole line before anything is served, or a first part of it, or nothing
+abbrev pub Wrote : Result ServerLine ServerWords → Option Address → Option (List ℕ) → Option (List ℕ) → ServerEnd → Type 0
+Wrote read bound before now (Usage at) = Appends before now []
+Wrote read bound before now (BadConfig fault) = Appends before now []
+Wrote read bound before now BindFault = Appends before now []
+Wrote read bound before now OutputFault = OfBound read bound (λ address. AppendsLess before now (ready_text address))
+Wrote read bound before now Sessions = OfBound read bound (λ address. Appends before now (ready_text address))
+Wrote read bound before now AcceptFault = OfBound read bound (λ address. Appends before now (ready_text address))
+Wrote read bound before now NoMemory = Appends before now []
+
+-- the line was written, or a first part of it where the sink failed, or nothing where memory ran out
+abbrev pub SaysReady : Address → Option (List ℕ) → Option (List ℕ) → Result (Unit {0}) ServerEnd → Type 0
+SaysReady address before now (Ok u) = Appends before now (ready_text address)
+SaysReady address before now (Err (Usage at)) = ⊥
+SaysReady address before now (Err (BadConfig fault)) = ⊥
+SaysReady address before now (Err BindFault) = ⊥
+SaysReady address before now (Err OutputFault) = AppendsLess before now (ready_text address)
+SaysReady address before now (Err Sessions) = ⊥
+SaysReady address before now (Err AcceptFault) = ⊥
+SaysReady address before now (Err NoMemory) = Appends before now []
+
+-- an end that comes before anything is bound
+abbrev pub IsRefusal : ServerEnd → Type 0
+IsRefusal (Usage at) = ⊤
+IsRefusal (BadConfig fault) = ⊤
+IsRefusal BindFault = ⊥
+IsRefusal OutputFault = ⊥
+IsRefusal Sessions = ⊥
+IsRefusal AcceptFault = ⊥
+IsRefusal NoMemory = ⊤

@@ -1,0 +1,53 @@
+//! How a server ends.
+ghost use Rattle.std.specs.Prelude.{◌≡◌, Some};
+ghost use Rattle.dory_server.specs.End.{end_text, status_of};
+
+use dory_domain::ConfigFault;
+use std::fmt;
+
+/// The end of a server: as many connections were served as were asked for, or the first thing that stood in the way.
+#[derive(Clone, Copy, Debug, PartialEq, Eq)]
+pub enum ServerEnd {
+    /// The word at this place, counted from 0, is the first that is absent or not of its form.
+    Usage { at: usize },
+    BadConfig(ConfigFault),
+    BindFault,
+    OutputFault,
+    /// As many connections were served as were asked for.
+    Sessions,
+    /// The port gave no further connection.
+    AcceptFault,
+    NoMemory,
+}
+
+impl ServerEnd {
+    /// The program's exit status.
+    pub fn status(&self) -> u8
+        ensures { result ≡ status_of self.now }
+    {
+        match self {
+            ServerEnd::Usage { .. } => 2,
+            ServerEnd::BadConfig(_) => 3,
+            ServerEnd::BindFault | ServerEnd::AcceptFault => 4,
+            ServerEnd::OutputFault => 9,
+            ServerEnd::Sessions => 0,
+            ServerEnd::NoMemory => 12,
+        }
+    }
+}
+
+impl fmt::Display for ServerEnd {
+    ghost output = { λ end. Some (end_text end) };
+
+    fn fmt<W: fmt::Write>(&self, f: &mut fmt::Formatter<W>) -> fmt::Result {
+        match self {
+            ServerEnd::Usage { at } => write!(f, "usage {at}"),
+            ServerEnd::BadConfig(fault) => write!(f, "badconfig {fault}"),
+            ServerEnd::BindFault => write!(f, "bindfault"),
+            ServerEnd::OutputFault => write!(f, "outputfault"),
+            ServerEnd::Sessions => write!(f, "sessions"),
+            ServerEnd::AcceptFault => write!(f, "acceptfault"),
+            ServerEnd::NoMemory => write!(f, "nomemory"),
+        }
+    }
+}
