@@ -1,3 +1,4 @@
 pub mod Row
 pub mod Spelling
 pub mod Reading
+pub mod Texts

@@ -1,8 +1,10 @@
 //! Why bytes are no kept state.
-ghost use Rattle.std.specs.Prelude.{◌≡◌};
+ghost use Rattle.std.specs.Prelude.{◌≡◌, Some};
+ghost use Rattle.dory_state.specs.Texts.{fault_text};
 ghost use Rattle.dory_state.specs.declared.fault.StateFault.TheVariants.{NoMemory};
 
 use std::alloc::{AllocError, AllocFailed};
+use std::fmt;
 
 /// The first thing that is wrong with the bytes. Places count from the first byte.
 #[derive(Clone, Copy, Debug, PartialEq, Eq)]
@@ -37,5 +39,18 @@ impl From<dory_base::NoMemory> for StateFault {
 
     fn from(_error: dory_base::NoMemory) -> StateFault {
         StateFault::NoMemory
+    }
+}
+
+impl fmt::Display for StateFault {
+    ghost output = { λ fault. Some (fault_text fault) };
+
+    fn fmt<W: fmt::Write>(&self, f: &mut fmt::Formatter<W>) -> fmt::Result {
+        match self {
+            StateFault::Header => write!(f, "header"),
+            StateFault::Length { got } => write!(f, "length {got}"),
+            StateFault::Field { at } => write!(f, "field {at}"),
+            StateFault::NoMemory => write!(f, "nomemory"),
+        }
     }
 }

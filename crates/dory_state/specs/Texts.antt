@@ -1,0 +1,12 @@
+-- How a fault of kept bytes is printed.
+use Rattle.std.specs.Prelude.{ℕ, List, ◌++◌, codes}
+use Rattle.std.specs.Fmt.{decimal}
+use Rattle.dory_state.specs.declared.fault.StateFault.{StateFault}
+use Rattle.dory_state.specs.declared.fault.StateFault.TheVariants as fault
+
+-- the fault's name in lower case, and its number after a space
+abbrev pub fault_text : StateFault → List ℕ
+fault_text fault.Header = codes "header"
+fault_text (fault.Length got) = codes "length " ++ decimal got
+fault_text (fault.Field at) = codes "field " ++ decimal at
+fault_text fault.NoMemory = codes "nomemory"
