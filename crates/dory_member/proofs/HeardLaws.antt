@@ -1,0 +1,133 @@
+-- What a reply that passes its checks says, for the proofs of callers.
+use Rattle.std.proofs.Common.{◌≡◌, ℕ, Bool, true, false, cond, List, Option, Some, None, Result, Ok, Err, inl, inr, refl, ap, sym, ◌∙◌}
+use Rattle.std.specs.Prelude.{◌⊎◌, ◌==◌, ◌&&◌}
+use Rattle.std.proofs.lemmas.Bool.{eqb-true, and_parts}
+use Rattle.dory_base.specs.declared.ids.Side.{Side}
+use Rattle.dory_base.specs.declared.ids.AskId.{AskId}
+use Rattle.dory_base.specs.declared.ids.UpdateId.{UpdateId}
+use Rattle.dory_wire.specs.declared.message.What.{What}
+use Rattle.dory_wire.specs.declared.message.What.TheVariants.{At, Found as Finds, Id, Staged, Committed, Refused}
+use Rattle.dory_wire.specs.declared.message.Reply.{Reply}
+use Rattle.dory_wire.specs.declared.fault.WireFault.{WireFault}
+use Rattle.dory_wire.specs.Frame.{message_in}
+use Rattle.dory_wire.specs.Reading.{reply_of, reply_or_none, if_read}
+use Rattle.dory_verify.specs.declared.fault.CheckFault.{CheckFault}
+use Rattle.dory_verify.specs.declared.fault.CheckFault.TheVariants as check
+use Rattle.dory_verify.specs.Checks.{echo, same_ask, same_id}
+use Rattle.dory_member.specs.declared.outcome.Mark.{Mark}
+use Rattle.dory_member.specs.declared.outcome.Fault.{Fault}
+use Rattle.dory_member.specs.declared.outcome.Fault.TheVariants as fault
+use Rattle.dory_member.specs.declared.phase.Single.{Single}
+use Rattle.dory_member.specs.declared.phase.Single.TheVariants.{Which, Stage, Order, Follow}
+use Rattle.dory_member.specs.Heard.{Heard}
+use Rattle.dory_member.specs.Single.{◌>>=◌, checked, confirmed, form, formed, framed, is_answer, mark, said, wanted}
+
+bind_ok : {A B : Type 0} (r : Result A Fault) (f : A → Result B Fault) (y : B) → (r >>= f) ≡ Ok y → (x : A) × (r ≡ Ok x) × (f x ≡ Ok y)
+bind_ok (Ok x) f y e = (x, refl, e)
+bind_ok (Err d) f y e = absurd (cc)
+
+checked_ok : {A : Type 0} (r : Result A CheckFault) (x : A) → checked r ≡ Ok x → r ≡ Ok x
+checked_ok (Ok y) x e = cc
+checked_ok (Err d) x e = absurd (cc)
+
+abbrev ok_read : Reply → Result Reply WireFault
+ok_read r = Ok r
+
+read_ok : (side : Side) (ask : Single) (read : Result Reply WireFault) (r : Reply) → formed side ask read ≡ Ok r → read ≡ Ok r
+read_ok side ask (Err e) r is = absurd (cc)
+read_ok side ask (Ok reply) r is = by (is_answer ask reply.what) is
+  where
+    by : (b : Bool) → cond b (Ok reply) (Err (check.Form side 4)) ≡ Ok r → ok_read reply ≡ ok_read r
+    by true e = cc
+    by false e = absurd (cc)
+
+came_ok : (side : Side) (ask : Single) (m : Option (List ℕ)) (r : Reply) → framed side ask m ≡ Ok r → reply_or_none m ≡ Some r
+came_ok side ask None r is = absurd (cc)
+came_ok side ask (Some message) r is = ap if_read (read_ok side ask (reply_of message) r is)
+
+echo_ok : (side : Side) (asked : AskId) (r : Reply) (u : Unit {0}) → echo side asked r ≡ Ok u → same_ask r.ask asked ≡ true
+echo_ok side asked r u is = by (same_ask r.ask asked) is
+  where
+    by : (b : Bool) → cond b (Ok tt) (Err (check.Echo side asked r.ask)) ≡ Ok u → b ≡ true
+    by true e = refl
+    by false e = absurd (cc)
+
+-- a frame that confirms a mark is such a reply
+pub heard : (side : Side) (ask : Single) (asked : AskId) (frame : List ℕ) (m : Mark) → confirmed side ask asked frame ≡ Ok m → Heard side ask asked frame m
+unfolding confirmed
+heard side ask asked frame m e =
+    let f = bind_ok (checked (form side ask frame)) _ m e in
+    let g = bind_ok (checked (echo side asked f.0)) _ m f.2 in
+    record {
+      reply = f.0;
+      came = came_ok side ask (message_in frame) f.0 (checked_ok (form side ask frame) f.0 f.1);
+      echoes = echo_ok side asked f.0 g.0 (checked_ok (echo side asked f.0) g.0 g.1);
+      says = g.2;
+    }
+
+same_id-true : (a b : UpdateId) → same_id a b ≡ true → a ≡ b
+same_id-true a b e =
+    let p = and_parts (a.member.0 == b.member.0) (a.serial == b.serial) e in
+    let member = eqb-true a.member.0 b.member.0 p.0 in
+    let serial = eqb-true a.serial b.serial p.1 in
+    λ i. record { member = record { 0 = member i }; serial = serial i }
+
+abbrev ok_mark : Mark → Result Mark Fault
+ok_mark m = Ok m
+
+wanted_if : (b : Bool) (side : Side) (w g m : Mark) → cond b (ok_mark g) (Err (fault.Unconfirmed side w g)) ≡ ok_mark m → (b ≡ true) × (g ≡ m)
+wanted_if true side w g m e = (refl, cc)
+wanted_if false side w g m e = absurd (cc)
+
+wanted_is : (side : Side) (w g m : Mark) → wanted side w g ≡ Ok m → (g ≡ m) × (w.number ≡ m.number) × (w.id ≡ m.id)
+wanted_is side w g m e =
+    let p = wanted_if ((w.number == g.number) && same_id w.id g.id) side w g m e in
+    let q = and_parts (w.number == g.number) (same_id w.id g.id) p.0 in
+    (p.1, eqb-true w.number g.number q.0 ∙ ap (λ (x : Mark). x.number) p.1, same_id-true w.id g.id q.1 ∙ ap (λ (x : Mark). x.id) p.1)
+
+-- what confirms an Order
+pub said_order : (side : Side) (i : UpdateId) (what : What) (m : Mark) → said side (Order i) what ≡ Ok m → (what ≡ Committed m.number m.id) × (i ≡ m.id)
+said_order side i (Committed n id) m e =
+    let p = wanted_is side (mark n i) (mark n id) m e in
+    (ap (λ (x : Mark). Committed x.number x.id) p.0, p.2)
+said_order side i (At n) m e = absurd (cc)
+said_order side i (Finds f) m e = absurd (cc)
+said_order side i (Id n x) m e = absurd (cc)
+said_order side i (Staged x) m e = absurd (cc)
+said_order side i (Refused c) m e = absurd (cc)
+
+-- what confirms a Follow
+pub said_follow : (side : Side) (n : ℕ) (i : UpdateId) (what : What) (m : Mark) → said side (Follow n i) what ≡ Ok m
+    → (what ≡ Committed m.number m.id) × (n ≡ m.number) × (i ≡ m.id)
+said_follow side k i (Committed n id) m e =
+    let p = wanted_is side (mark k i) (mark n id) m e in
+    (ap (λ (x : Mark). Committed x.number x.id) p.0, p.1, p.2)
+said_follow side k i (At n) m e = absurd (cc)
+said_follow side k i (Finds f) m e = absurd (cc)
+said_follow side k i (Id n x) m e = absurd (cc)
+said_follow side k i (Staged x) m e = absurd (cc)
+said_follow side k i (Refused c) m e = absurd (cc)
+
+-- what confirms a Which
+pub said_which : (side : Side) (n : ℕ) (what : What) (m : Mark) → said side (Which n) what ≡ Ok m → (what ≡ Id m.number m.id) × (n ≡ m.number)
+said_which side k (Id n id) m e =
+    let p = wanted_is side (mark k id) (mark n id) m e in
+    (ap (λ (x : Mark). Id x.number x.id) p.0, p.1)
+said_which side k (At n) m e = absurd (cc)
+said_which side k (Finds f) m e = absurd (cc)
+said_which side k (Staged x) m e = absurd (cc)
+said_which side k (Committed n x) m e = absurd (cc)
+said_which side k (Refused c) m e = absurd (cc)
+
+-- what confirms a Stage
+pub said_stage : (side : Side) (i : UpdateId) (what : What) (m : Mark) → said side (Stage i) what ≡ Ok m → (what ≡ Staged i) ⊎ (what ≡ Committed m.number i)
+said_stage side i (Staged id) m e =
+    let p = wanted_is side (mark 0 i) (mark 0 id) m e in
+    inl (ap (λ (x : UpdateId). Staged x) (ap (λ (x : Mark). x.id) p.0 ∙ sym p.2))
+said_stage side i (Committed n id) m e =
+    let p = wanted_is side (mark n i) (mark n id) m e in
+    inr (ap (λ (x : Mark). Committed x.number x.id) p.0 ∙ ap (λ (x : UpdateId). Committed m.number x) (sym p.2))
+said_stage side i (At n) m e = absurd (cc)
+said_stage side i (Finds f) m e = absurd (cc)
+said_stage side i (Id n x) m e = absurd (cc)
+said_stage side i (Refused c) m e = absurd (cc)

@@ -1,0 +1,10 @@
+pub mod Kept
+pub mod Entries
+pub mod Starts
+pub mod Turns
+pub mod RisingLaws
+pub mod Queries
+pub mod TextLaws
+pub mod MoreReplies
+pub mod CourseLaws
+pub mod HeardLaws

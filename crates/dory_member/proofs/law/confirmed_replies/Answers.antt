@@ -1,0 +1,5 @@
+use Rattle.dory_member.proofs.HeardLaws.{heard}
+use Rattle.dory_member.proofs.law.confirmed_replies.Goals as goal
+
+pub returns : goal.returns
+returns c = heard

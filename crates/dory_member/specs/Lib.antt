@@ -1,0 +1,10 @@
+pub mod Draw
+pub mod Rising
+pub mod Single
+pub mod Course
+pub mod Machine
+pub mod Within
+pub mod Stands
+pub mod Texts
+pub mod Whole
+pub mod Heard
