@@ -20,17 +20,15 @@ use Rattle.dory_link.specs.Told.{Told, Heard}
 use Rattle.dory_verify.specs.declared.fault.CheckFault.{CheckFault}
 use Rattle.dory_verify.specs.declared.fault.CheckFault.TheVariants as fault
 use Rattle.dory_verify.specs.Checks.{first_fault_of}
-use Rattle.dory_client.specs.declared.state.KeptState.{KeptState}
-use Rattle.dory_client.specs.declared.end.ClientEnd.{ClientEnd}
-use Rattle.dory_client.specs.declared.end.ClientEnd.TheVariants as ends
-use Rattle.dory_client.specs.State.{state_of}
-use Rattle.dory_client.specs.declared.state.NotKept.{NotKept}
-use Rattle.dory_client.specs.Sought.{Sought, folder_keys, columns_of, sought_of}
-use Rattle.dory_client.specs.State.{IsKept}
+use Rattle.dory_state.specs.declared.kept.KeptState.{KeptState}
+use Rattle.dory_state.specs.Reading.{state_of}
+use Rattle.dory_state.specs.declared.fault.StateFault.{StateFault}
+use Rattle.dory_member.specs.Course.{folder_keys, lesser}
+use Rattle.dory_client.specs.Sought.{Sought, ask_of, asked_of, columns_of, searching, sought_of}
+use Rattle.dory_state.specs.Spelling.{IsKeptState}
 use Rattle.dory_io.specs.Bytes.{Tells}
-use Rattle.dory_client.specs.Asked.{Ask, ask_of, asked_of}
-use Rattle.dory_client.specs.Course.{Lengths, Failed, Course, searching, lesser}
-use Rattle.dory_client.specs.Headline.{Began}
+use Rattle.dory_client.specs.Asked.{Ask}
+use Rattle.dory_client.proofs.Course.{Lengths, Failed}
 use Rattle.dory_client.specs.Complete.{KeepsState, TellsFolder, TellsSeen, Agree, TellAlike, IsRefusal}
 use Rattle.dory_client.proofs.Replied.{longer, same_version, grown_told, replied_by}
 use Rattle.dory_verify.specs.Honest.{found_by, reply}
@@ -44,7 +42,7 @@ use Rattle.std.specs.List.{AllByRecursion}
 abbrev ok_lengths : ℕ × ℕ → Result (ℕ × ℕ) CheckFault
 ok_lengths n = Ok n
 
-abbrev ok_state : KeptState → Result KeptState NotKept
+abbrev ok_state : KeptState → Result KeptState StateFault
 ok_state state = Ok state
 
 -- ---- the lengths
@@ -111,7 +109,7 @@ sealed_taken state (suc n) (e ∷ entries) all = (all.0, sealed_taken state n en
 
 -- a pair that answers a search of two folders, whose histories end as these, and a fault that the checks find
 pub record Faulty (state : KeptState) (seed word : List ℕ) (s t : Dims) (a b y z : List Entry) (number : ℕ) (lead follow : List ℕ) (w w' : What) (f : CheckFault) : Type 0 where
-  pub kept : IsKept state
+  pub kept : IsKeptState state
   pub in_lead : reply_in lead ≡ Some (reply (ask_of state 2) w)
   pub in_follow : reply_in follow ≡ Some (reply (ask_of state 3) w')
   pub by_lead : IsSearched state.shape s a number (sought_of state seed word).lead w
@@ -184,7 +182,7 @@ fresh_version seen version n m e same l l' =
     subst (λ (v : ℕ). seen ≤ v) (sym e) (subst (λ (k : ℕ × ℕ). seen ≤ lesser k.0 k.1) (sym is) (lesser_fresh seen m.0 m.1 l l'))
 
 -- a check that failed, failed by a refusal
-failed_refused : (lead lead' follow follow' : Heard) (state : KeptState) (seed word : List ℕ) (f : CheckFault) (a : TellsSeen lead lead' state) (b : TellsSeen follow follow' state) → IsKept state → Agree a.folder_now.history b.folder_now.history
+pub failed_refused : (lead lead' follow follow' : Heard) (state : KeptState) (seed word : List ℕ) (f : CheckFault) (a : TellsSeen lead lead' state) (b : TellsSeen follow follow' state) → IsKeptState state → Agree a.folder_now.history b.folder_now.history
     → AllByRecursion (IsSealed (folder_keys state)) a.folder_now.history → Failed lead lead' follow follow' state (sought_of state seed word) f → IsRefusal f
 failed_refused lead lead' follow follow' state seed word f a b kept agree sealed (inl p) =
     let n = lengths_told lead lead' follow follow' state (Err f) a.folder_before a.folder_now b.folder_before b.folder_now a.told_before a.told_now b.told_before b.told_now a.seen b.seen p in
@@ -212,18 +210,10 @@ failed_refused lead lead' follow follow' state seed word f a b kept agree sealed
       faulty = s.second.checked;
     })
 
-same_state : (kept : Option (Option (List ℕ))) (bytes : List ℕ) (s t : KeptState) → KeepsState kept s → Tells kept (Some bytes) → state_of bytes ≡ Ok t → t ≡ s
+pub same_state : (kept : Option (Option (List ℕ))) (bytes : List ℕ) (s t : KeptState) → KeepsState kept s → Tells kept (Some bytes) → state_of bytes ≡ Ok t → t ≡ s
 same_state None bytes s t keeps told is = absurd keeps
 same_state (Some None) bytes s t keeps told is = absurd keeps
 same_state (Some (Some kept)) bytes s t keeps told is =
     let same : kept ≡ bytes = cc in
     let one : ok_state t ≡ ok_state s = sym is ∙ ap state_of (sym same) ∙ keeps in
     cc
-
--- a search that ends the call by a check that failed was refused
-pub only_refused : (kept : Option (Option (List ℕ))) (words : List (List ℕ)) (seed : List ℕ) (lead lead' follow follow' : Heard) (b : Began kept words) (end : ClientEnd) → Course lead lead' follow follow' b.state (sought_of b.state seed b.word) (Err end) → TellAlike kept lead lead' follow follow' → (f : CheckFault) → end ≡ ends.Check f → IsRefusal f
-only_refused kept words seed lead lead' follow follow' b end course c f is =
-    let failed : Failed lead lead' follow follow' b.state (sought_of b.state seed b.word) f = subst (λ (e : ClientEnd). Course lead lead' follow follow' b.state (sought_of b.state seed b.word) (Err e)) is course in
-    let same : b.state ≡ c.state = same_state kept b.bytes c.state b.state c.keeps b.is_kept b.is_state in
-    failed_refused lead lead' follow follow' c.state seed b.word f c.by_lead c.by_follow (subst IsKept same b.in_range) c.agree c.sealed
-    (subst (λ (s : KeptState). Failed lead lead' follow follow' s (sought_of s seed b.word) f) same failed)

@@ -31,11 +31,12 @@ use Rattle.dory_verify.specs.Honest.{IsFoundIn, IsSearch, IsRightOrForged, found
 use Rattle.dory_verify.specs.Listing.{Lists}
 use Rattle.dory_verify.proofs.Beside.{answered_beside_lead, answered_beside_follow}
 use Rattle.dory_verify.proofs.CheckLaws.{checked_ok}
-use Rattle.dory_client.specs.declared.state.KeptState.{KeptState}
-use Rattle.dory_client.specs.State.{IsKept}
-use Rattle.dory_client.specs.Sought.{folder_keys, columns_of, sought_of}
-use Rattle.dory_client.specs.Course.{searching, Answered}
-use Rattle.dory_client.specs.Asked.{GrewBy, Replies, ask_of, asked_of, spoke}
+use Rattle.dory_state.specs.declared.kept.KeptState.{KeptState}
+use Rattle.dory_state.specs.Spelling.{IsKeptState}
+use Rattle.dory_member.specs.Course.{folder_keys}
+use Rattle.dory_client.specs.Sought.{ask_of, asked_of, columns_of, searching, sought_of}
+use Rattle.dory_client.proofs.Course.{Answered}
+use Rattle.dory_client.specs.Asked.{GrewBy, Replies, spoke}
 use Rattle.dory_client.specs.Headline.{Part, LastCame, IsExactBeside, IsRight, IsRightOf, IsRightBy, lead_part, follow_part}
 
 nat_both : (a b c : ℕ) → (nat_le a b && nat_le b c) ≡ true → b ≤ c
@@ -81,12 +82,12 @@ pub found_same : (history : List Entry) (version : ℕ) (keys : List PointKey) �
 found_same history version keys = ap (with_sums history version) (sums_same (sum_of (table_of (version_of version history))) shares_of keys)
 
 -- the keys that are drawn for a word are pairs at its columns
-pub pairs_are : (state : KeptState) (seed word : List ℕ) → IsKept state → ArePairs (2 ^ state.shape.depth) (columns_of state word) (map shares_of (sought_of state seed word).lead) (map shares_of (sought_of state seed word).follow)
+pub pairs_are : (state : KeptState) (seed word : List ℕ) → IsKeptState state → ArePairs (2 ^ state.shape.depth) (columns_of state word) (map shares_of (sought_of state seed word).lead) (map shares_of (sought_of state seed word).follow)
 pairs_are state seed word kept =
     pairs_of state.shape.depth seed state.next_serial 0 (columns_of state word) (omega (arith, kept.shape.low)) (within (hmac (folder_keys state).word word) state.shape.depth 0 state.shape.probes)
 
 -- a search of a word in a history whose version is sealed
-pub is_search : (state : KeptState) (seed word : List ℕ) (history : List Entry) (version : ℕ) → IsKept state → IsHistory state.shape history → AllByRecursion (IsSealed (folder_keys state)) (version_of version history)
+pub is_search : (state : KeptState) (seed word : List ℕ) (history : List Entry) (version : ℕ) → IsKeptState state → IsHistory state.shape history → AllByRecursion (IsSealed (folder_keys state)) (version_of version history)
     → IsSearch (folder_keys state) state.shape history version word (columns_of state word) (map shares_of (sought_of state seed word).lead) (map shares_of (sought_of state seed word).follow)
 is_search state seed word history version kept is sealed = record { history_is = is; sealed = sealed; columns_are = refl; pairs = pairs_are state seed word kept }
 
@@ -164,7 +165,7 @@ beside (Some talks) other state word history answer version frame named came rig
 
 -- ---- an answered search is right by each link
 
-pub right_lead : (lead lead' follow follow' : Heard) (state : KeptState) (seed word : List ℕ) (answer : Answer) → IsKept state → Answered lead lead' follow follow' state (sought_of state seed word) answer
+pub right_lead : (lead lead' follow follow' : Heard) (state : KeptState) (seed word : List ℕ) (answer : Answer) → IsKeptState state → Answered lead lead' follow follow' state (sought_of state seed word) answer
     → IsRightBy lead.folders lead'.folders (follow_part follow follow' state seed word) state word answer
 right_lead lead lead' follow follow' state seed word answer kept (both, version, s, lists) =
     let keys = folder_keys state in
@@ -186,7 +187,7 @@ right_lead lead lead' follow follow' state seed word answer kept (both, version,
     earlier lead.folders s.lead_between.folders lead'.folders other state word answer s.first.asked_lead.grown
     (right_ask s.lead_between.folders lead'.folders other state word 2 version sought.lead from_lead both.0 answer s.second.asked_lead.replies ok.found.in_lead ok.one.fresh lists.named shown)
 
-pub right_follow : (lead lead' follow follow' : Heard) (state : KeptState) (seed word : List ℕ) (answer : Answer) → IsKept state → Answered lead lead' follow follow' state (sought_of state seed word) answer
+pub right_follow : (lead lead' follow follow' : Heard) (state : KeptState) (seed word : List ℕ) (answer : Answer) → IsKeptState state → Answered lead lead' follow follow' state (sought_of state seed word) answer
     → IsRightBy follow.folders follow'.folders (lead_part lead lead' state seed word) state word answer
 right_follow lead lead' follow follow' state seed word answer kept (both, version, s, lists) =
     let keys = folder_keys state in
@@ -207,3 +208,9 @@ right_follow lead lead' follow follow' state seed word answer kept (both, versio
     (both.0, both.1, s.second.checked, lists) lead_bytes follow_bytes (is_search state seed word history version kept is sealed_version) honest) in
     earlier follow.folders s.follow_between.folders follow'.folders other state word answer s.first.asked_follow.grown
     (right_ask s.follow_between.folders follow'.folders other state word 3 version sought.follow from_follow both.1 answer s.second.asked_follow.replies ok.found.in_follow ok.one.fresh lists.named shown)
+
+-- the version of an answer isn't older than what was seen
+pub answered_fresh : (lead lead' follow follow' : Heard) (state : KeptState) (seed word : List ℕ) (answer : Answer) → Answered lead lead' follow follow' state (sought_of state seed word) answer → state.seen ≤ answer.version
+answered_fresh lead lead' follow follow' state seed word answer (both, version, s, lists) =
+    let ok = checked_ok (folder_keys state) (columns_of state word) version state.seen (ask_of state 2) (ask_of state 3) s.second.from_lead s.second.from_follow both.0 both.1 s.second.asked_lead.are_bytes s.second.asked_follow.are_bytes s.second.checked in
+    subst (λ (v : ℕ). state.seen ≤ v) (sym lists.named) ok.one.fresh

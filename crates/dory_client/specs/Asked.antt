@@ -1,27 +1,11 @@
 -- One ask, as the links tell it.
 use Rattle.std.specs.Prelude.{ℕ, ◌≡◌, ◌<◌, ⊤, ◌⊎◌, List, [], ◌∷◌, ◌++◌, slice_index, map, take, Option, Some, None}
-use Rattle.dory_base.specs.declared.ids.Side.{Side}
-use Rattle.dory_base.specs.declared.ids.AskId.{AskId}
-use Rattle.dory_wire.specs.declared.message.Want.{Want}
 use Rattle.dory_wire.specs.declared.message.Request.{Request}
 use Rattle.dory_wire.specs.declared.message.What.{What}
 use Rattle.dory_wire.specs.Frame.{frame_of}
 use Rattle.dory_wire.specs.Reading.{reply_in}
-use Rattle.dory_wire.specs.Spelling.{spelling_of_request}
+use Rattle.dory_wire.specs.Spelling.{IsRequest, spelling_of_request}
 use Rattle.dory_link.specs.Told.{Told, Talk, talk, Heard, Grows, IsAnswer}
-use Rattle.dory_verify.specs.declared.fault.VerifyError.{VerifyError}
-use Rattle.dory_verify.specs.declared.fault.VerifyError.TheVariants as errors
-use Rattle.dory_client.specs.declared.state.KeptState.{KeptState}
-use Rattle.dory_client.specs.declared.end.ClientEnd.{ClientEnd}
-use Rattle.dory_client.specs.declared.end.ClientEnd.TheVariants as ends
-
--- the name of a step's ask: the state's member, its next serial, and the step
-abbrev pub ask_of : KeptState → ℕ → AskId
-ask_of state step = record { member = state.member; serial = state.next_serial; step = step }
-
--- the request of a state's member for its folder
-abbrev pub asked_of : KeptState → ℕ → Want → Request
-asked_of state step want = record { ask = ask_of state step; folder = state.folder; want = want }
 
 -- the frame of a request
 abbrev pub request_frame : Request → List ℕ
@@ -53,17 +37,11 @@ pub record Ask (before now : Heard) (request : Request) (frame : List ℕ) : Typ
   pub grew : GrewBy before.exchanges now.exchanges (spoke request frame ∷ [])
   pub replies : Replies before.folders now.folders request frame
   pub grown : Grows before.folders now.folders
+  pub in_range : IsRequest request
   pub are_bytes : (i : ℕ) → slice_index frame i < 256
 
 -- a request was asked or not, and no frame came
-abbrev pub Unanswered : Heard → Heard → Request → Type 0
-Unanswered before now request = (n : ℕ) × AskedFrames before.exchanges now.exchanges (take n (request_frame request ∷ []))
-
--- an ask fails by its link or by want of memory
-abbrev pub FailsAs : Side → ClientEnd → Type 0
-FailsAs side end = (end ≡ ends.LinkFault side) ⊎ (end ≡ ends.NoMemory)
-
--- how a call ends at a check that fails
-abbrev pub check_end : VerifyError → ClientEnd
-check_end (errors.Check f) = ends.Check f
-check_end errors.NoMemory = ends.NoMemory
+pub record Unanswered (before now : Heard) (request : Request) : Type 0 where
+  pub times : ℕ
+  pub asked : AskedFrames before.exchanges now.exchanges (take times (request_frame request ∷ []))
+  pub grown : Grows before.folders now.folders

@@ -1,19 +1,21 @@
 -- Over which links a search fails no check but by a refusal.
-use Rattle.std.specs.Prelude.{ℕ, ◌≡◌, ◌≤◌, ⊤, List, Option, Some, None, Ok, length}
+use Rattle.std.specs.Prelude.{ℕ, ◌≡◌, ◌≤◌, ⊤, false, List, Option, Some, None, Ok, length}
 use Rattle.std.specs.List.{AllByRecursion}
 use Rattle.dory_base.specs.declared.entry.Entry.{Entry}
 use Rattle.dory_seal.specs.Seal.{IsSealed}
-use Rattle.dory_client.specs.Sought.{folder_keys}
+use Rattle.dory_member.specs.Course.{folder_keys}
 use Rattle.dory_base.specs.History.{version_of}
 use Rattle.dory_link.specs.Told.{Told, Heard}
 use Rattle.dory_verify.specs.declared.fault.CheckFault.{CheckFault}
 use Rattle.dory_verify.specs.declared.fault.CheckFault.TheVariants as fault
-use Rattle.dory_client.specs.declared.state.KeptState.{KeptState}
+use Rattle.dory_state.specs.declared.kept.KeptState.{KeptState}
 use Rattle.dory_io.specs.Causes.{Rose}
 use Rattle.dory_client.specs.declared.end.ClientEnd.{ClientEnd}
 use Rattle.dory_client.specs.declared.end.ClientEnd.TheVariants as ends
-use Rattle.dory_client.specs.CommandLine.{searched_word}
-use Rattle.dory_client.specs.State.{state_of}
+use Rattle.dory_cli.specs.Line.{line_of}
+use Rattle.dory_cli.specs.declared.line.Line.TheVariants.{Search}
+use Rattle.dory_member.specs.Draw.{is_last_serial}
+use Rattle.dory_state.specs.Reading.{state_of}
 
 -- the kept bytes are told, and are this state
 abbrev pub KeepsState : Option (Option (List ℕ)) → KeptState → Type 0
@@ -67,14 +69,28 @@ EndsWell (ends.Check f) = IsRefusal f
 EndsWell ends.NoMemory = ⊤
 EndsWell (ends.Usage fault) = ⊥
 EndsWell ends.NoState = ⊥
+EndsWell (ends.StateForm fault) = ⊥
+EndsWell ends.HasState = ⊥
 EndsWell ends.KeeperFault = ⊥
 EndsWell (ends.LinkFault side) = ⊥
+EndsWell ends.InputFault = ⊥
+EndsWell ends.InputLong = ⊥
 EndsWell ends.OutputFault = ⊥
+EndsWell (ends.Unconfirmed side want got) = ⊥
+EndsWell (ends.Diverged number lead_id follow_id) = ⊥
+EndsWell (ends.Unfinished id) = ⊥
+EndsWell ends.SerialEnd = ⊥
+EndsWell ends.EpochEnd = ⊥
 
--- the words are a search, and no count of faults rose in the call
-pub record Unhindered (words : List (List ℕ)) (keeper keeper' lead lead' follow follow' out out' : ℕ) : Type 0 where
+-- the words are a search
+pub record IsSearch (words : List (List ℕ)) : Type 0 where
   pub word : List ℕ
-  pub is_word : searched_word words ≡ Some word
+  pub is : line_of words ≡ Ok (Search word)
+
+-- the words are a search, a serial is left, and no count of faults rose in the call
+pub record Unhindered (words : List (List ℕ)) (state : KeptState) (keeper keeper' lead lead' follow follow' out out' : ℕ) : Type 0 where
+  pub searches : IsSearch words
+  pub serial : is_last_serial state ≡ false
   pub keeper_worked : ¬ Rose keeper keeper'
   pub lead_worked : ¬ Rose lead lead'
   pub follow_worked : ¬ Rose follow follow'

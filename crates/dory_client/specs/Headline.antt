@@ -1,62 +1,26 @@
--- What a call says of what it did.
-use Rattle.std.specs.Prelude.{ℕ, ◌≡◌, ◌≤◌, ⊤, ◌⊎◌, List, [], ◌∷◌, Option, Some, None, Ok, Err, length, map}
+-- What an accepted search says.
+use Rattle.std.specs.Prelude.{ℕ, ◌≡◌, ◌≤◌, ⊤, List, [], ◌∷◌, Option, Some, None, Ok, length, map}
 use Rattle.std.specs.List.{AllByRecursion}
 use Rattle.std.specs.Io.KnownBytes.{Appends}
 use Rattle.dory_base.specs.declared.entry.Entry.{Entry}
 use Rattle.dory_base.specs.History.{IsPrefix, version_of}
-use Rattle.dory_io.specs.Bytes.{Tells, Stays}
+use Rattle.dory_io.specs.Bytes.{Tells}
 use Rattle.dory_link.specs.Told.{Told, Talk, Heard}
 use Rattle.dory_wire.specs.declared.message.Want.TheVariants.{Latest}
 use Rattle.dory_dpf.specs.PointKey.{PointKey, shares_of}
 use Rattle.dory_seal.specs.Seal.{IsSealed}
 use Rattle.dory_verify.specs.declared.answer.Answer.{Answer}
 use Rattle.dory_verify.specs.Honest.{IsRightOrForged}
-use Rattle.dory_client.specs.declared.state.KeptState.{KeptState}
-use Rattle.dory_client.specs.declared.end.ClientEnd.{ClientEnd}
-use Rattle.dory_client.specs.declared.end.ClientEnd.TheVariants as ends
-use Rattle.dory_client.specs.State.{state_of, not_kept, IsKept}
-use Rattle.dory_client.specs.CommandLine.{searched_word}
-use Rattle.dory_client.specs.Sought.{folder_keys, columns_of, sought_of}
-use Rattle.dory_client.specs.Asked.{GrewBy, asked_of, spoke}
-use Rattle.dory_client.specs.Text.{answer_text}
-use Rattle.dory_io.specs.Output.{AppendsPart}
-use Rattle.dory_client.specs.Course.{Answered, Failed, Broken, searching}
-
--- what the kept bytes and the words say
-pub record Began (kept : Option (Option (List ℕ))) (words : List (List ℕ)) : Type 0 where
-  pub bytes : List ℕ
-  pub state : KeptState
-  pub word : List ℕ
-  pub is_kept : Tells kept (Some bytes)
-  pub is_state : state_of bytes ≡ Ok state
-  pub is_word : searched_word words ≡ Some word
-  pub in_range : IsKept state
-
--- nothing is kept, or bytes that are no state
-abbrev pub HasNoState : Option (Option (List ℕ)) → Type 0
-HasNoState None = ⊤
-HasNoState (Some None) = ⊤
-HasNoState (Some (Some bytes)) = state_of bytes ≡ Err not_kept
-
--- neither link was asked
-abbrev pub AskedNothing : Heard → Heard → Heard → Heard → Type 0
-AskedNothing lead lead' follow follow' = (lead' ≡ lead) × (follow' ≡ follow)
-
--- What was asked, what came and what was written, by how the call ended.
-abbrev pub IsRun : Option (Option (List ℕ)) → List (List ℕ) → List ℕ → Heard → Heard → Heard → Heard → Option (List ℕ) → Option (List ℕ) → ClientEnd → Type 0
-IsRun kept words seed lead lead' follow follow' out out' ends.Done =
-    (b : Began kept words) × (answer : Answer) × Answered lead lead' follow follow' b.state (sought_of b.state seed b.word) answer × Appends out out' (answer_text answer)
-IsRun kept words seed lead lead' follow follow' out out' ends.OutputFault =
-    (b : Began kept words) × (answer : Answer) × Answered lead lead' follow follow' b.state (sought_of b.state seed b.word) answer × AppendsPart out out' (answer_text answer)
-IsRun kept words seed lead lead' follow follow' out out' (ends.Check f) =
-    (b : Began kept words) × Failed lead lead' follow follow' b.state (sought_of b.state seed b.word) f × Stays out out'
-IsRun kept words seed lead lead' follow follow' out out' (ends.LinkFault side) =
-    (b : Began kept words) × Broken lead lead' follow follow' b.state (sought_of b.state seed b.word) × Stays out out'
-IsRun kept words seed lead lead' follow follow' out out' (ends.Usage fault) = (searched_word words ≡ None) × AskedNothing lead lead' follow follow' × Stays out out'
-IsRun kept words seed lead lead' follow follow' out out' ends.NoState = HasNoState kept × AskedNothing lead lead' follow follow' × Stays out out'
-IsRun kept words seed lead lead' follow follow' out out' ends.KeeperFault = AskedNothing lead lead' follow follow' × Stays out out'
-IsRun kept words seed lead lead' follow follow' out out' ends.NoMemory =
-    (AskedNothing lead lead' follow follow' ⊎ ((b : Began kept words) × Broken lead lead' follow follow' b.state (sought_of b.state seed b.word))) × Stays out out'
+use Rattle.dory_cli.specs.Line.{line_of as read_of}
+use Rattle.dory_cli.specs.declared.line.Line.TheVariants.{Search}
+use Rattle.dory_state.specs.declared.kept.KeptState.{KeptState}
+use Rattle.dory_state.specs.Reading.{state_of}
+use Rattle.dory_member.specs.declared.outcome.Outcome.TheVariants.{Accepted}
+use Rattle.dory_member.specs.Course.{folder_keys}
+use Rattle.dory_client.specs.Asked.{GrewBy, spoke}
+use Rattle.dory_client.specs.Goes.{line_of}
+use Rattle.dory_client.specs.Scene.{Scene}
+use Rattle.dory_client.specs.Sought.{asked_of, columns_of, searching, sought_of}
 
 -- the other domain's part in a search: what its link told before and after, the steps of its two asks, and the keys that
 -- it was sent
@@ -112,10 +76,14 @@ lead_part lead lead' state seed word = record { before = lead.exchanges; now = l
 abbrev pub follow_part : Heard → Heard → KeptState → List ℕ → List ℕ → Part
 follow_part follow follow' state seed word = record { before = follow.exchanges; now = follow'.exchanges; first = 1; second = 3; keys = (sought_of state seed word).follow }
 
--- the sink was given the text of an answer that is right by each link beside the other
-pub record IsAccepted (kept : Option (Option (List ℕ))) (words : List (List ℕ)) (seed : List ℕ) (lead lead' follow follow' : Heard) (out out' : Option (List ℕ)) : Type 0 where
-  pub began : Began kept words
+-- A search that was accepted in this state: the answer is right by each link beside the other, it was written, and its
+-- version is what is seen from now on.
+pub record Accepts (k : KeptState) (seed word : List ℕ) (a z : Scene) : Type 0 where
   pub answer : Answer
-  pub by_lead : IsRightBy lead.folders lead'.folders (follow_part follow follow' began.state seed began.word) began.state began.word answer
-  pub by_follow : IsRightBy follow.folders follow'.folders (lead_part lead lead' began.state seed began.word) began.state began.word answer
-  pub written : Appends out out' (answer_text answer)
+  pub by_lead : IsRightBy a.lead.folders z.lead.folders (follow_part a.follow z.follow k seed word) k word answer
+  pub by_follow : IsRightBy a.follow.folders z.follow.folders (lead_part a.lead z.lead k seed word) k word answer
+  pub written : Appends a.written z.written (line_of (Accepted answer))
+
+-- where the words are a search, it was accepted in the state that is kept
+abbrev pub IsAccepted : List (List ℕ) → List ℕ → Scene → Scene → Type 0
+IsAccepted words seed a z = (word : List ℕ) → read_of words ≡ Ok (Search word) → (bytes : List ℕ) × (k : KeptState) × Tells a.kept (Some bytes) × (state_of bytes ≡ Ok k) × Accepts k seed word a z

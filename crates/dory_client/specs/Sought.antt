@@ -1,11 +1,15 @@
 -- What a word is searched by.
 use Rattle.std.specs.Prelude.{ℕ, List}
 use Rattle.dory_hmac.specs.declared.folder_keys.FolderKeys.{FolderKeys}
-use Rattle.dory_hmac.specs.FolderKeys.{keys_of}
 use Rattle.dory_bloom.specs.Positions.{positions_of}
 use Rattle.dory_dpf.specs.PointKey.{PointKey}
 use Rattle.dory_query.specs.Drawn.{keys_from}
-use Rattle.dory_client.specs.declared.state.KeptState.{KeptState}
+use Rattle.dory_base.specs.declared.ids.AskId.{AskId}
+use Rattle.dory_wire.specs.declared.message.Want.{Want}
+use Rattle.dory_wire.specs.declared.message.Want.TheVariants.{Search}
+use Rattle.dory_wire.specs.declared.message.Request.{Request}
+use Rattle.dory_state.specs.declared.kept.KeptState.{KeptState}
+use Rattle.dory_member.specs.Course.{folder_keys}
 
 -- the folder's keys, the word's columns, and the point keys that the lead and the follower are sent
 pub record Sought : Type 0 where
@@ -13,10 +17,6 @@ pub record Sought : Type 0 where
   pub columns : List ℕ
   pub lead : List PointKey
   pub follow : List PointKey
-
--- the keys of a state's folder
-abbrev pub folder_keys : KeptState → FolderKeys
-folder_keys state = keys_of state.master state.folder.0
 
 -- the columns of a word in a state's folder
 abbrev pub columns_of : KeptState → List ℕ → List ℕ
@@ -31,3 +31,15 @@ sought_of state seed word = record {
   lead = keys_from 0 state.shape.depth seed state.next_serial 0 (columns_of state word);
   follow = keys_from 1 state.shape.depth seed state.next_serial 0 (columns_of state word);
 }
+
+-- the name of a step's ask, in a command that draws the next serial of this state
+abbrev pub ask_of : KeptState → ℕ → AskId
+ask_of state step = record { member = state.member; serial = state.next_serial; step = step }
+
+-- what is asked at a step of the state's folder
+abbrev pub asked_of : KeptState → ℕ → Want → Request
+asked_of state step want = record { ask = ask_of state step; folder = state.folder; want = want }
+
+-- a search at a version
+abbrev pub searching : KeptState → ℕ → ℕ → List PointKey → Request
+searching state step version keys = asked_of state step (Search version state.shape keys)

@@ -2,29 +2,56 @@
 ghost use Rattle.std.specs.Prelude.{◌≡◌, Some, IfOk, string_bytes};
 ghost use Rattle.dory_client.specs.Text.{end_text, status_of};
 
-use dory_base::{NoMemory, Side};
+use dory_base::{NoMemory, Side, UpdateId};
+use dory_cli::UsageFault;
+use dory_member::Mark;
+use dory_state::StateFault;
 use dory_verify::CheckFault;
 use std::alloc::Global;
 use std::fmt;
-
-/// Why words are no command line.
-#[derive(Clone, Copy, Debug, PartialEq, Eq)]
-pub enum UsageFault {
-    Words,
-}
 
 /// The end of a call: what was asked is done, or the first thing that stood in its way.
 #[derive(Clone, Copy, Debug, PartialEq, Eq)]
 pub enum ClientEnd {
     Done,
+    /// The words are no command line.
     Usage(UsageFault),
-    /// Nothing is kept, or bytes that are no state.
+    /// Nothing is kept, and the command isn't `init`.
     NoState,
+    /// The kept bytes are no state.
+    StateForm(StateFault),
+    /// Something is kept, and the command is `init`.
+    HasState,
     KeeperFault,
-    LinkFault { side: Side },
+    LinkFault {
+        side: Side,
+    },
+    InputFault,
+    /// A post's text has more than 8,388,608 bytes.
+    InputLong,
+    OutputFault,
     /// The first check that the replies fail.
     Check(CheckFault),
-    OutputFault,
+    /// A reply confirms another update, or another number, than the one that was asked.
+    Unconfirmed {
+        side: Side,
+        want: Mark,
+        got: Mark,
+    },
+    /// The two domains have different updates at one number.
+    Diverged {
+        number: u32,
+        lead_id: UpdateId,
+        follow_id: UpdateId,
+    },
+    /// This update has to be finished first, by `resume`.
+    Unfinished {
+        id: UpdateId,
+    },
+    /// No serial is left.
+    SerialEnd,
+    /// No epoch is left.
+    EpochEnd,
     NoMemory,
 }
 
@@ -37,11 +64,20 @@ impl ClientEnd {
             ClientEnd::Done => 0,
             ClientEnd::Usage(_) => 2,
             ClientEnd::NoState => 3,
+            ClientEnd::StateForm(_) => 3,
+            ClientEnd::HasState => 3,
             ClientEnd::KeeperFault => 4,
             ClientEnd::LinkFault { .. } => 5,
+            ClientEnd::InputFault => 6,
+            ClientEnd::InputLong => 6,
             ClientEnd::OutputFault => 7,
             ClientEnd::Check(_) => 8,
+            ClientEnd::Unconfirmed { .. } => 9,
+            ClientEnd::Diverged { .. } => 9,
+            ClientEnd::Unfinished { .. } => 10,
+            ClientEnd::SerialEnd => 11,
             ClientEnd::NoMemory => 12,
+            ClientEnd::EpochEnd => 16,
         }
     }
 }
@@ -52,12 +88,27 @@ impl fmt::Display for ClientEnd {
     fn fmt<W: fmt::Write>(&self, f: &mut fmt::Formatter<W>) -> fmt::Result {
         match self {
             ClientEnd::Done => write!(f, "done"),
-            ClientEnd::Usage(_) => write!(f, "usage words"),
+            ClientEnd::Usage(fault) => write!(f, "{fault}"),
             ClientEnd::NoState => write!(f, "nostate"),
+            ClientEnd::StateForm(fault) => write!(f, "stateform {fault}"),
+            ClientEnd::HasState => write!(f, "hasstate"),
             ClientEnd::KeeperFault => write!(f, "keeperfault"),
             ClientEnd::LinkFault { side } => write!(f, "linkfault {side}"),
-            ClientEnd::Check(fault) => write!(f, "{fault}"),
+            ClientEnd::InputFault => write!(f, "inputfault"),
+            ClientEnd::InputLong => write!(f, "inputlong"),
             ClientEnd::OutputFault => write!(f, "outputfault"),
+            ClientEnd::Check(fault) => write!(f, "{fault}"),
+            ClientEnd::Unconfirmed { side, want, got } => {
+                write!(f, "unconfirmed {side} {want} {got}")
+            }
+            ClientEnd::Diverged {
+                number,
+                lead_id,
+                follow_id,
+            } => write!(f, "diverged {number} {lead_id} {follow_id}"),
+            ClientEnd::Unfinished { id } => write!(f, "unfinished {id}"),
+            ClientEnd::SerialEnd => write!(f, "serialend"),
+            ClientEnd::EpochEnd => write!(f, "epochend"),
             ClientEnd::NoMemory => write!(f, "nomemory"),
         }
     }

@@ -1,44 +1,64 @@
-//! The program `dory`: a member's searches over two links, and the top call that does all of it.
+//! The program `dory`: a member of a shared folder, whose two domains are asked over TCP.
 #![tactic(auto)]
 
-mod ask;
+mod command;
+mod drive;
 mod end;
-mod in_memory;
+mod file_keeper;
+mod go;
+mod input;
 mod run;
-mod search;
-mod state;
-mod std_sink;
+mod said;
+mod save;
+mod start;
 #[cfg(test)]
 mod tests;
-mod text;
-mod words;
 
 use crate::end::{ClientEnd, client_text};
-use crate::in_memory::{kept, link, shape};
+use crate::file_keeper::FileKeeper;
 use crate::run::client_run;
-use crate::std_sink::StdSink;
-use dory_base::{NoMemory, Side, Word};
-use dory_io::{MemKeeper, VecSource, write_all};
+use dory_base::NoMemory;
+use dory_cli::UsageFault;
+use dory_io::write_all;
+use dory_net::{StdSink, StdSource, TcpLink};
 use std::alloc::Global;
-use std::io::Write;
+use std::fs::File;
+use std::io::{Read, Write};
+use std::net::{Net, TcpStream};
 use std::process::ExitCode;
-use std::rt::Env;
-use std::{env, io};
+use std::rt::{Env, Files};
+use std::{env, fs, io};
 
 /// What `--help` writes.
-const HELP: &str = "dory: encrypted search in a shared folder over two domains
+const HELP: &str = "dory: a member of a shared folder, searched over two servers
 
-usage: dory search WORD
+usage: dory STATE LEAD FOLLOW COMMAND
 
-WORD is 1 to 64 lower-case ASCII letters and digits. The search runs over two
-domains in memory, whose folder has one document, 7, with the word `alpha`.
+STATE   the file that keeps the member's state, its master key among it
+LEAD    the lead's address, as 127.0.0.1:7001
+FOLLOW  the follower's address
+
+COMMAND is one of
+  init --folder N --member N --depth N --probes N --master HEX [--serial N]
+                begins the state of member 0 to 63: depth 8 to 11 and probes 1
+                to 8 as the servers have them, HEX the master key of the folder
+                in 64 digits, and a serial above all that this member ever used
+  post DOC      posts the document DOC, a number, whose text is standard input
+  remove DOC    removes it
+  search WORD   lists the documents that hold the word
+  resume        finishes an update that was broken off
+  latest        says how many updates each server has, and how many were seen
+  rotate        begins a new epoch of keys
 
   --help     writes this text
   --version  writes the version
 ";
 
 /// What `--version` writes.
-const VERSION: &str = "dory 0.1.0\n";
+const VERSION: &str = "dory 0.2.0\n";
+
+/// The status where no seed could be read.
+const NO_SEED: u8 = 13;
 
 /// The words after the program's name.
 fn typed_words<R: Env + AllocGlobal>(rt: &R) -> io::Result<Vec<String>> {
@@ -58,50 +78,95 @@ fn asked_text(words: &[String]) -> Option<&'static str> {
     }
 }
 
-/// The top call over the two domains in memory.
-fn search_in_memory<W: Write + Drop>(
-    alloc: Global,
-    words: &[String],
-    stdout: W,
-) -> Result<ClientEnd, NoMemory> {
-    let alpha = [Word::read(b"alpha").map_err(|_| NoMemory)?];
-    let mut lead = link(alloc, Side::Lead, shape(2), &alpha)?;
-    let mut follow = link(alloc, Side::Follow, shape(2), &alpha)?;
-    let mut keeper = MemKeeper::new(Some(kept(alloc, 2, 1)?), Vec::new(alloc));
-    let mut input = VecSource::new(Vec::new(alloc), Vec::new(alloc));
-    let mut out = StdSink::new(alloc, stdout);
-    Ok(client_run(
-        alloc,
-        words,
-        [0; 32],
-        &mut lead,
-        &mut follow,
-        &mut keeper,
-        &mut input,
-        &mut out,
-    ))
+/// Thirty-two bytes of the system's random source, from which a command draws its keys.
+fn seed<R: Files>(rt: &R) -> io::Result<[u8; 32]> {
+    let mut seed = [0; 32];
+    fs::open(rt, "/dev/urandom")?.read_exact(&mut seed)?;
+    Ok(seed)
 }
 
-/// The end of the whole program. Words that aren't text are no command line.
-fn end_of<R: Env + AllocGlobal, W: Write + Drop>(rt: &R, stdout: W) -> ClientEnd {
-    let alloc = rt.alloc();
-    let Ok(words) = typed_words(rt) else {
-        return ClientEnd::Usage(end::UsageFault::Words);
-    };
-    if let Some(text) = asked_text(&words) {
-        let mut out = StdSink::new(alloc, stdout);
-        return match write_all(&mut out, text.as_bytes()) {
-            Ok(()) => ClientEnd::Done,
-            Err(_) => ClientEnd::OutputFault,
-        };
+/// The word at a place, taken out of the words.
+fn taken(words: &mut Vec<String>) -> Option<String> {
+    if words.is_empty() {
+        None
+    } else {
+        Some(words.remove(0))
     }
-    search_in_memory(alloc, &words, stdout).unwrap_or(ClientEnd::NoMemory)
 }
 
-fn main(rt: HostRuntime) -> ExitCode {
-    let end = end_of(&rt, rt.stdout());
-    if end != ClientEnd::Done {
-        match client_text(rt.alloc(), &end) {
+/// What is typed: where the state is kept, where the two servers are, and the command's words.
+#[derive(Drop)]
+struct Typed {
+    state: String,
+    lead: String,
+    follow: String,
+    command: Vec<String>,
+}
+
+/// The words in their parts; where there are fewer than three, no command.
+fn parted(alloc: Global, mut words: Vec<String>) -> Typed {
+    let state = taken(&mut words);
+    let lead = taken(&mut words);
+    match (state, lead, taken(&mut words)) {
+        (Some(state), Some(lead), Some(follow)) => Typed {
+            state,
+            lead,
+            follow,
+            command: words,
+        },
+        _ => Typed {
+            state: String::new(alloc),
+            lead: String::new(alloc),
+            follow: String::new(alloc),
+            command: Vec::new(alloc),
+        },
+    }
+}
+
+/// The top call over a file and two servers.
+fn over_servers<R, I, O>(
+    rt: &R,
+    words: Vec<String>,
+    seed: [u8; 32],
+    stdin: I,
+    stdout: O,
+) -> ClientEnd
+where
+    R: AllocGlobal + Files<File = File> + Net<Stream = TcpStream>,
+    I: Read + Drop,
+    O: Write + Drop,
+{
+    let alloc = rt.alloc();
+    let Typed {
+        state,
+        lead,
+        follow,
+        command,
+    } = parted(alloc, words);
+    client_run(
+        alloc,
+        &command,
+        seed,
+        &mut TcpLink::new(rt, alloc, lead),
+        &mut TcpLink::new(rt, alloc, follow),
+        &mut FileKeeper::new(rt, alloc, state),
+        &mut StdSource::new(alloc, stdin),
+        &mut StdSink::new(alloc, stdout),
+    )
+}
+
+/// Writes a text that was asked for.
+fn written<O: Write + Drop>(alloc: Global, text: &str, stdout: O) -> ClientEnd {
+    match write_all(&mut StdSink::new(alloc, stdout), text.as_bytes()) {
+        Ok(()) => ClientEnd::Done,
+        Err(_) => ClientEnd::OutputFault,
+    }
+}
+
+/// Tells an end other than `Done`, and answers the status.
+fn told(rt: &HostRuntime, end: &ClientEnd) -> u8 {
+    if *end != ClientEnd::Done {
+        match client_text(rt.alloc(), end) {
             Ok(text) => {
                 let _ = eprintln!(rt; "dory: {text}");
             }
@@ -110,5 +175,20 @@ fn main(rt: HostRuntime) -> ExitCode {
             }
         }
     }
-    ExitCode::from(end.status())
+    end.status()
+}
+
+fn main(rt: HostRuntime) -> ExitCode {
+    let Ok(words) = typed_words(&rt) else {
+        return ExitCode::from(told(&rt, &ClientEnd::Usage(UsageFault::Words)));
+    };
+    if let Some(text) = asked_text(&words) {
+        return ExitCode::from(told(&rt, &written(rt.alloc(), text, rt.stdout())));
+    }
+    let Ok(seed) = seed(&rt) else {
+        let _ = eprintln!(rt; "dory: seed");
+        return ExitCode::from(NO_SEED);
+    };
+    let end = over_servers(&rt, words, seed, rt.stdin(), rt.stdout());
+    ExitCode::from(told(&rt, &end))
 }

@@ -1,24 +1,127 @@
 //! The top call.
-ghost use Rattle.std.specs.Prelude.{◌≡◌, None, map, string_bytes};
-ghost use Rattle.dory_io.specs.Bytes.{Stays};
-ghost use Rattle.dory_io.specs.Causes.{Rose};
-ghost use Rattle.dory_client.specs.CommandLine.{searched_word};
-ghost use Rattle.dory_client.specs.Headline.{IsRun, IsAccepted};
+ghost use Rattle.std.specs.Prelude.{◌≡◌, map, string_bytes};
+ghost use Rattle.dory_base.specs.declared.ids.Side.TheVariants as sides;
+ghost use Rattle.dory_io.specs.Causes.{HasCause};
+ghost use Rattle.dory_state.specs.Spelling.{IsKeptState};
+ghost use Rattle.dory_state.specs.Reading.{state_of};
 ghost use Rattle.dory_verify.specs.declared.fault.CheckFault.{CheckFault};
-ghost use Rattle.dory_client.specs.Complete.{TellAlike, IsRefusal, EndsWell, Unhindered};
+ghost use Rattle.dory_client.specs.Complete.{EndsWell, IsRefusal, IsSearch, TellAlike, Unhindered};
+ghost use Rattle.dory_client.specs.Confirmed.{Does};
+ghost use Rattle.dory_client.specs.Headline.{IsAccepted};
+ghost use Rattle.dory_client.specs.Input.{AreTooMany};
+ghost use Rattle.dory_client.specs.Run.{Begins, IsRun, MayAct};
+ghost use Rattle.dory_client.specs.Scene.{input_at, scene};
+ghost use Rattle.dory_client.specs.Start.{IsTodo};
 
-use crate::end::{ClientEnd, UsageFault};
-use crate::search::search;
-use crate::state::read_state;
-use crate::text::answer_text;
-use crate::words::read_words;
-use dory_base::Side;
-use dory_io::{KeepError, Keeper, Sink, Source, write_all};
+use crate::command::command_of;
+use crate::end::ClientEnd;
+use crate::go::go;
+use crate::said::say_ready;
+use crate::save::keep;
+use crate::start::{Start, Todo, start_of};
+use dory_cli::{UsageFault, read_line};
+use dory_io::{KeepError, Keeper, Sink, Source};
 use dory_link::Link;
+use dory_state::{KeptState, StateFault, read_state};
 use std::alloc::Global;
 
-/// Does all that the program does: reads the words and the kept state, searches over the two links, of which one may
-/// answer anything, checks the replies and writes the answer. Nothing is saved, and the input isn't read.
+/// Keeps a first state.
+fn begin<K: Keeper, O: Sink>(
+    alloc: Global,
+    first: &KeptState,
+    keeper: &mut K,
+    out: &mut O,
+) -> ClientEnd
+    requires { IsKeptState first.now }
+    ensures begins { Begins first.now (K.kept keeper.old) (K.kept keeper.new) (O.written out.old) (O.written out.new) result }
+    ensures keeper { HasCause (K.faults keeper.old) (K.faults keeper.new) (result ≡ ClientEnd.KeeperFault) }
+    ensures out { HasCause (O.faults out.old) (O.faults out.new) (result ≡ ClientEnd.OutputFault) }
+{
+    match keep(alloc, first, keeper) {
+        Ok(()) => say_ready(alloc, out),
+        Err(end) => end,
+    }
+}
+
+/// Acts in the state that the kept bytes are.
+fn act<L0: Link, L1: Link, K: Keeper, S: Source, O: Sink>(
+    alloc: Global,
+    todo: Todo,
+    bytes: &[u8],
+    seed: [u8; 32],
+    lead: &mut L0,
+    follow: &mut L1,
+    keeper: &mut K,
+    input: &mut S,
+    out: &mut O,
+) -> ClientEnd
+    requires { IsTodo todo }
+    ensures acts { MayAct (state_of bytes.now) seed todo (input_at (S.left input.old) (S.given input.old)) (input_at (S.left input.new) (S.given input.new))
+        (scene (K.kept keeper.old) (L0.heard lead.old) (L1.heard follow.old) (O.written out.old)) (scene (K.kept keeper.new) (L0.heard lead.new) (L1.heard follow.new) (O.written out.new)) result }
+    ensures keeper { HasCause (K.faults keeper.old) (K.faults keeper.new) (result ≡ ClientEnd.KeeperFault) }
+    ensures lead { HasCause (L0.faults lead.old) (L0.faults lead.new) (result ≡ ClientEnd.LinkFault sides.Lead) }
+    ensures follow { HasCause (L1.faults follow.old) (L1.faults follow.new) (result ≡ ClientEnd.LinkFault sides.Follow) }
+    ensures input { HasCause (S.faults input.old) (S.faults input.new) (result ≡ ClientEnd.InputFault) }
+    ensures long { result ≡ ClientEnd.InputLong → AreTooMany (S.left input.old) }
+    ensures out { HasCause (O.faults out.old) (O.faults out.new) (result ≡ ClientEnd.OutputFault) }
+{
+    let state = match read_state(alloc, bytes) {
+        Ok(state) => state,
+        Err(StateFault::NoMemory) => return ClientEnd::NoMemory,
+        Err(fault) => return ClientEnd::StateForm(fault),
+    };
+    let command = match command_of(alloc, todo, &state, input) {
+        Ok(command) => command,
+        Err(end) => return end,
+    };
+    go(alloc, state, seed, command, lead, follow, keeper, out)
+}
+
+/// Reads the words and what is kept, and begins a state or acts in the one there is.
+fn call<L0: Link, L1: Link, K: Keeper, S: Source, O: Sink>(
+    alloc: Global,
+    words: &[String],
+    seed: [u8; 32],
+    lead: &mut L0,
+    follow: &mut L1,
+    keeper: &mut K,
+    input: &mut S,
+    out: &mut O,
+) -> ClientEnd
+    ensures run { IsRun (map string_bytes words.now) seed (input_at (S.left input.old) (S.given input.old)) (input_at (S.left input.new) (S.given input.new))
+        (scene (K.kept keeper.old) (L0.heard lead.old) (L1.heard follow.old) (O.written out.old)) (scene (K.kept keeper.new) (L0.heard lead.new) (L1.heard follow.new) (O.written out.new)) result }
+    ensures keeper { HasCause (K.faults keeper.old) (K.faults keeper.new) (result ≡ ClientEnd.KeeperFault) }
+    ensures lead { HasCause (L0.faults lead.old) (L0.faults lead.new) (result ≡ ClientEnd.LinkFault sides.Lead) }
+    ensures follow { HasCause (L1.faults follow.old) (L1.faults follow.new) (result ≡ ClientEnd.LinkFault sides.Follow) }
+    ensures input { HasCause (S.faults input.old) (S.faults input.new) (result ≡ ClientEnd.InputFault) }
+    ensures long { result ≡ ClientEnd.InputLong → AreTooMany (S.left input.old) }
+    ensures out { HasCause (O.faults out.old) (O.faults out.new) (result ≡ ClientEnd.OutputFault) }
+{
+    let line = match read_line(alloc, words) {
+        Ok(line) => line,
+        Err(UsageFault::NoMemory) => return ClientEnd::NoMemory,
+        Err(fault) => return ClientEnd::Usage(fault),
+    };
+    let kept = match keeper.load(alloc) {
+        Ok(kept) => kept,
+        Err(KeepError::Failed) => return ClientEnd::KeeperFault,
+        Err(KeepError::NoMemory) => return ClientEnd::NoMemory,
+    };
+    match start_of(line) {
+        Start::Init(first) => match kept {
+            None => begin(alloc, &first, keeper, out),
+            Some(_) => ClientEnd::HasState,
+        },
+        Start::Act(todo) => match kept {
+            None => ClientEnd::NoState,
+            Some(bytes) => act(alloc, todo, &bytes, seed, lead, follow, keeper, input, out),
+        },
+    }
+}
+
+/// Does all that the program does: reads the words and the kept state, runs the command over the two links, of which one
+/// may answer anything, checks the replies, keeps the state and writes what the command came to. Only a post reads the
+/// input, to its end.
 pub fn client_run<L0: Link, L1: Link, K: Keeper, S: Source, O: Sink>(
     alloc: Global,
     words: &[String],
@@ -26,49 +129,33 @@ pub fn client_run<L0: Link, L1: Link, K: Keeper, S: Source, O: Sink>(
     lead: &mut L0,
     follow: &mut L1,
     keeper: &mut K,
-    _input: &mut S,
+    input: &mut S,
     out: &mut O,
 ) -> ClientEnd
-    // What was asked, what came and what was written, by the end.
-    ensures run { IsRun (K.kept keeper.old) (map string_bytes words.now) seed (L0.heard lead.old) (L0.heard lead.new) (L1.heard follow.old) (L1.heard follow.new) (O.written out.old) (O.written out.new) result }
+    // The whole call: what was read, asked, kept and written, by its end.
+    ensures run { IsRun (map string_bytes words.now) seed (input_at (S.left input.old) (S.given input.old)) (input_at (S.left input.new) (S.given input.new))
+        (scene (K.kept keeper.old) (L0.heard lead.old) (L1.heard follow.old) (O.written out.old)) (scene (K.kept keeper.new) (L0.heard lead.new) (L1.heard follow.new) (O.written out.new)) result }
+    // Each fault of the outside comes only where its count rose, and no count falls.
+    ensures keeper { HasCause (K.faults keeper.old) (K.faults keeper.new) (result ≡ ClientEnd.KeeperFault) }
+    ensures lead { HasCause (L0.faults lead.old) (L0.faults lead.new) (result ≡ ClientEnd.LinkFault sides.Lead) }
+    ensures follow { HasCause (L1.faults follow.old) (L1.faults follow.new) (result ≡ ClientEnd.LinkFault sides.Follow) }
+    ensures input { HasCause (S.faults input.old) (S.faults input.new) (result ≡ ClientEnd.InputFault) }
+    ensures out { HasCause (O.faults out.old) (O.faults out.new) (result ≡ ClientEnd.OutputFault) }
     // The headline: an accepted search is right by each link that tells its folders, or the other link's reply is the
     // forgery.
-    ensures accepted { result ≡ ClientEnd.Done → IsAccepted (K.kept keeper.old) (map string_bytes words.now) seed (L0.heard lead.old) (L0.heard lead.new) (L1.heard follow.old) (L1.heard follow.new) (O.written out.old) (O.written out.new) }
-    // Over two links that tell the folder, with sealed histories that agree and were no shorter than what was seen, no
-    // check fails but by a refusal.
-    ensures complete { TellAlike (K.kept keeper.old) (L0.heard lead.old) (L0.heard lead.new) (L1.heard follow.old) (L1.heard follow.new) → (f : CheckFault) → result ≡ ClientEnd.Check f → IsRefusal f }
-    // Where moreover the words are a search and nothing outside failed, the search ends done, or by a refusal.
-    ensures ends { Unhindered (map string_bytes words.now) (K.faults keeper.old) (K.faults keeper.new) (L0.faults lead.old) (L0.faults lead.new) (L1.faults follow.old) (L1.faults follow.new) (O.faults out.old) (O.faults out.new) → TellAlike (K.kept keeper.old) (L0.heard lead.old) (L0.heard lead.new) (L1.heard follow.old) (L1.heard follow.new) → EndsWell result }
-    // Words that are no command line are refused.
-    ensures usage { searched_word (map string_bytes words.now) ≡ None → result ≡ ClientEnd.Usage UsageFault.Words }
-    ensures keeper_fault { result ≡ ClientEnd.KeeperFault → Rose (K.faults keeper.old) (K.faults keeper.new) }
-    ensures lead_fault { result ≡ ClientEnd.LinkFault Side.Lead → Rose (L0.faults lead.old) (L0.faults lead.new) }
-    ensures follow_fault { result ≡ ClientEnd.LinkFault Side.Follow → Rose (L1.faults follow.old) (L1.faults follow.new) }
-    ensures output_fault { result ≡ ClientEnd.OutputFault → Rose (O.faults out.old) (O.faults out.new) }
-    // What is kept stays as it was.
-    ensures kept { Stays (K.kept keeper.old) (K.kept keeper.new) }
+    ensures accepted { result ≡ ClientEnd.Done → IsAccepted (map string_bytes words.now) seed
+        (scene (K.kept keeper.old) (L0.heard lead.old) (L1.heard follow.old) (O.written out.old)) (scene (K.kept keeper.new) (L0.heard lead.new) (L1.heard follow.new) (O.written out.new)) }
+    // What is done: an update stands at one number in both told histories, and what is kept as seen doesn't fall, nor go
+    // beyond a told history that had what was seen before.
+    ensures does { result ≡ ClientEnd.Done → Does (map string_bytes words.now) seed (input_at (S.left input.old) (S.given input.old)) (input_at (S.left input.new) (S.given input.new))
+        (scene (K.kept keeper.old) (L0.heard lead.old) (L1.heard follow.old) (O.written out.old)) (scene (K.kept keeper.new) (L0.heard lead.new) (L1.heard follow.new) (O.written out.new)) }
+    // Over two links that tell the folder, with sealed histories that agree and were no shorter than what was seen, a search
+    // fails no check but by a refusal.
+    ensures complete { IsSearch (map string_bytes words.now) → TellAlike (K.kept keeper.old) (L0.heard lead.old) (L0.heard lead.new) (L1.heard follow.old) (L1.heard follow.new) → (f : CheckFault) → result ≡ ClientEnd.Check f → IsRefusal f }
+    // Where moreover a serial is left and nothing outside failed, the search ends done, or by a refusal.
+    ensures ends { (t : TellAlike (K.kept keeper.old) (L0.heard lead.old) (L0.heard lead.new) (L1.heard follow.old) (L1.heard follow.new)) → Unhindered (map string_bytes words.now) t.state (K.faults keeper.old) (K.faults keeper.new) (L0.faults lead.old) (L0.faults lead.new) (L1.faults follow.old) (L1.faults follow.new) (O.faults out.old) (O.faults out.new) → EndsWell result }
+    // A text is too long only where what is left of the input, as it is told, is more than a text has.
+    ensures long { result ≡ ClientEnd.InputLong → AreTooMany (S.left input.old) }
 {
-    let Some(word) = read_words(words) else {
-        return ClientEnd::Usage(UsageFault::Words);
-    };
-    let bytes = match keeper.load(alloc) {
-        Ok(Some(bytes)) => bytes,
-        Ok(None) => return ClientEnd::NoState,
-        Err(KeepError::Failed) => return ClientEnd::KeeperFault,
-        Err(KeepError::NoMemory) => return ClientEnd::NoMemory,
-    };
-    let Ok(state) = read_state(&bytes) else {
-        return ClientEnd::NoState;
-    };
-    let answer = match search(alloc, &state, &seed, &word, lead, follow) {
-        Ok(answer) => answer,
-        Err(end) => return end,
-    };
-    let Ok(text) = answer_text(alloc, &answer) else {
-        return ClientEnd::NoMemory;
-    };
-    match write_all(out, text.as_bytes()) {
-        Ok(()) => ClientEnd::Done,
-        Err(_) => ClientEnd::OutputFault,
-    }
+    call(alloc, words, seed, lead, follow, keeper, input, out)
 }

@@ -1,97 +1,18 @@
-use Rattle.dory_client.proofs.Ends.{search_ends}
-use Rattle.std.proofs.Common.{ap, Err, rules, ℕ, List, map, string_bytes, subst, ◌∙◌, inr}
-use Rattle.dory_client.specs.Text.{answer_text}
-use Rattle.dory_io.specs.Output.{AppendsPart}
-use Rattle.dory_client.specs.Headline.{Began}
-use Rattle.dory_client.proofs.Courses.{ended, broken_after}
-use Rattle.dory_client.proofs.Right.{right_lead, right_follow}
-use Rattle.dory_client.proofs.Complete.{only_refused}
+use Rattle.std.proofs.Common.{map, string_bytes, subst}
+use Rattle.dory_client.proofs.Does.{accepted, does}
+use Rattle.dory_client.proofs.SearchEnds.{complete, ends_well}
 use Rattle.dory_client.proofs.run.client_run.Goals as goal
 
-pub returns-in-Err-clause-run : goal.returns-in-Err-clause-run
-returns-in-Err-clause-run g c =
-    let began : Began (g.K.Keeper.kept c.args.keeper.now) (map string_bytes c.args.words.now) = record {
-      bytes = c.in-Ok-Some.bytes.items;
-      state = c.in-Ok.state;
-      word = c.in-Some.word;
-      is_kept = search rules;
-      is_state = search rules;
-      is_word = search rules;
-      in_range = search rules;
-    } in
-    ended _ _ _ _ _ _ _ (g.O.Sink.written c.args.out.now) (g.O.Sink.written c.args.out.now) began c.in-Err.end c.in-Err.ensures.course c.in-Err.ensures.broken (search rules)
+pub returns-clause-accepted : goal.returns-clause-accepted
+returns-clause-accepted g c = λ is. accepted (map string_bytes c.args.words.now) c.args.seed _ _ _ _ (rw is at c.call.ensures.run)
 
-pub returns-in-Err-clause-complete : goal.returns-in-Err-clause-complete
-returns-in-Err-clause-complete g c = λ complete f is.
-    let began : Began (g.K.Keeper.kept c.args.keeper.now) (map string_bytes c.args.words.now) = record {
-      bytes = c.in-Ok-Some.bytes.items;
-      state = c.in-Ok.state;
-      word = c.in-Some.word;
-      is_kept = search rules;
-      is_state = search rules;
-      is_word = search rules;
-      in_range = search rules;
-    } in
-    only_refused _ _ c.args.seed _ _ _ _ began c.in-Err.end c.in-Err.ensures.course complete f is
+pub returns-clause-does : goal.returns-clause-does
+returns-clause-does g c = λ is. does (map string_bytes c.args.words.now) c.args.seed _ _ _ _ (rw is at c.call.ensures.run)
 
-pub returns-in_default-answer_text-clause-run : goal.returns-in_default-answer_text-clause-run
-returns-in_default-answer_text-clause-run g c =
-    let began : Began (g.K.Keeper.kept c.args.keeper.now) (map string_bytes c.args.words.now) = record {
-      bytes = c.in-Ok-Some.bytes.items;
-      state = c.in-Ok.state;
-      word = c.in-Some.word;
-      is_kept = search rules;
-      is_state = search rules;
-      is_word = search rules;
-      in_range = search rules;
-    } in
-    (inr (began, broken_after _ _ _ _ _ _ c.in-Ok-search.answer c.in-Ok-search.ensures.course), search rules)
+pub returns-clause-complete : goal.returns-clause-complete
+returns-clause-complete g c = λ search alike f is. complete (map string_bytes c.args.words.now) c.args.seed search.word _ _ _ _ c.call.result search.is alike c.call.ensures.run f is
 
-pub returns-in-Ok-write_all-clause-run : goal.returns-in-Ok-write_all-clause-run
-returns-in-Ok-write_all-clause-run g c =
-    let began : Began (g.K.Keeper.kept c.args.keeper.now) (map string_bytes c.args.words.now) = record {
-      bytes = c.in-Ok-Some.bytes.items;
-      state = c.in-Ok.state;
-      word = c.in-Some.word;
-      is_kept = search rules;
-      is_state = search rules;
-      is_word = search rules;
-      in_range = search rules;
-    } in
-    (began, c.in-Ok-search.answer, c.in-Ok-search.ensures.course, search rules)
-
-pub returns-in-Ok-write_all-clause-accepted : goal.returns-in-Ok-write_all-clause-accepted
-returns-in-Ok-write_all-clause-accepted g c = λ done. record {
-  began = record {
-    bytes = c.in-Ok-Some.bytes.items;
-    state = c.in-Ok.state;
-    word = c.in-Some.word;
-    is_kept = search rules;
-    is_state = search rules;
-    is_word = search rules;
-    in_range = search rules;
-  };
-  answer = c.in-Ok-search.answer;
-  by_lead = right_lead _ _ _ _ c.in-Ok.state c.args.seed c.in-Some.word c.in-Ok-search.answer (search rules) c.in-Ok-search.ensures.course;
-  by_follow = right_follow _ _ _ _ c.in-Ok.state c.args.seed c.in-Some.word c.in-Ok-search.answer (search rules) c.in-Ok-search.ensures.course;
-  written = search rules;
-}
-
-pub returns-clause-run : goal.returns-clause-run
-returns-clause-run g c =
-    let began : Began (g.K.Keeper.kept c.args.keeper.now) (map string_bytes c.args.words.now) = record {
-      bytes = c.in-Ok-Some.bytes.items;
-      state = c.in-Ok.state;
-      word = c.in-Some.word;
-      is_kept = search rules;
-      is_state = search rules;
-      is_word = search rules;
-      in_range = search rules;
-    } in
-    let part : AppendsPart (g.O.Sink.written c.args.out.now) (g.O.Sink.written c.write_all.new.out) (answer_text c.in-Ok-search.answer) =
-    subst (λ (bytes : List ℕ). AppendsPart (g.O.Sink.written c.args.out.now) (g.O.Sink.written c.write_all.new.out) bytes) (c.as_bytes.ensures.value ∙ c.in-Ok-answer_text.ensures) c.in-Err-write_all.ensures.part in
-    (began, c.in-Ok-search.answer, c.in-Ok-search.ensures.course, part)
-
-pub returns-in-Err-clause-ends : goal.returns-in-Err-clause-ends
-returns-in-Err-clause-ends g c = λ free told.
-    search_ends _ _ _ _ c.in-Ok.state _ c.in-Err.end _ _ c.in-Err.ensures.course (returns-in-Err-clause-complete g c told) (λ e. c.in-Err.ensures.lead.rose (ap Err e)) (λ e. c.in-Err.ensures.follow.rose (ap Err e)) free.lead_worked free.follow_worked
+pub returns-clause-ends : goal.returns-clause-ends
+returns-clause-ends g c = λ alike free.
+    ends_well (map string_bytes c.args.words.now) c.args.seed free.searches.word _ _ _ _ c.call.result _ _ _ _ free.searches.is alike free.serial c.call.ensures.run
+    c.call.ensures.keeper.rose c.call.ensures.lead.rose c.call.ensures.follow.rose c.call.ensures.out.rose free.keeper_worked free.lead_worked free.follow_worked free.sink_worked

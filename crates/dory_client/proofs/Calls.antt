@@ -1,0 +1,100 @@
+-- How a call is made of its parts.
+use Rattle.std.proofs.Common.{◌≡◌, ℕ, Bool, true, false, List, Option, None, Some, Result, Ok, Err, refl, ap, sym, ◌∙◌, subst, inl, inr}
+use Rattle.std.specs.Prelude.{◌⊎◌}
+use Rattle.dory_io.specs.Bytes.{Stays, Tells}
+use Rattle.dory_link.specs.Told.{Heard}
+use Rattle.dory_cli.specs.declared.line.Line.{Line}
+use Rattle.dory_cli.specs.declared.fault.UsageFault.{UsageFault}
+use Rattle.dory_state.specs.Reading.{state_of}
+use Rattle.dory_state.specs.Spelling.{IsKeptState}
+use Rattle.dory_state.specs.declared.kept.KeptState.{KeptState}
+use Rattle.dory_state.specs.declared.fault.StateFault.{StateFault}
+use Rattle.dory_member.specs.declared.command.Command.{Command}
+use Rattle.dory_member.specs.declared.phase.Run.{Run}
+use Rattle.dory_member.specs.Course.{begun, run_after}
+use Rattle.dory_member.specs.Machine.{saves_first}
+use Rattle.dory_client.specs.declared.start.Todo.{Todo}
+use Rattle.dory_client.specs.declared.start.Start.{Start}
+use Rattle.dory_client.specs.declared.end.ClientEnd.{ClientEnd}
+use Rattle.dory_client.specs.Command.{HasCommand, NoCommand}
+use Rattle.dory_client.specs.Goes.{Goes, Unsaved, Broken, RanOut, Fell, Unkept, Came, GoesFrom, IsBegun, NotBegun}
+use Rattle.dory_client.specs.Goes as goes
+use Rattle.dory_client.specs.Kept.{KeepsIf, KeepsNow, KeepsOf, OldOrNew}
+use Rattle.dory_client.specs.Run.{Acts, NotMade, Refused, NoRoom, Began, ActsIn, MayAct, Begins, Loads, Runs}
+use Rattle.dory_client.specs.Run as run
+use Rattle.dory_client.specs.Scene.{Input, IsUntouched, Scene, scene}
+use Rattle.dory_client.specs.Start.{command_of, start_of}
+use Rattle.dory_client.proofs.Finish.{stays_twice, untouched}
+
+abbrev Told : Type 0
+Told = Option (Option (List ℕ))
+
+-- ---- from a keeper's earlier moment, at which it kept the same
+
+now_from : (a b c : Told) (k : KeptState) → Stays a b → KeepsNow b c k → KeepsNow a c k
+now_from None b c k same now = tt
+now_from (Some a) None c k same now = absurd same
+now_from (Some a) (Some b) None k same now = absurd now
+now_from (Some a) (Some b) (Some c) k same now = now
+
+either_from : (a b c : Told) (k : KeptState) → Stays a b → OldOrNew b c k → OldOrNew a c k
+either_from a b c k same (inl stays) = inl (stays_twice a b c same stays)
+either_from a b c k same (inr now) = inr (now_from a b c k same now)
+
+if_from : (u : Bool) (a b c : Told) (k : KeptState) → Stays a b → KeepsIf u b c k → KeepsIf u a c k
+if_from true a b c k same now = now_from a b c k same now
+if_from false a b c k same stays = stays_twice a b c same stays
+
+tells_from : (a b : Told) (x : Option (List ℕ)) → Stays a b → Tells b x → Tells a x
+tells_from None b x same told = tt
+tells_from (Some a) None x same told = absurd same
+tells_from (Some a) (Some b) x same told = sym same ∙ told
+
+untouched_from : (a b : Told) (lead follow : Heard) (written : Option (List ℕ)) (z : Scene) → Stays a b → IsUntouched (scene b lead follow written) z → IsUntouched (scene a lead follow written) z
+untouched_from a b lead follow written z same u = record { asked = u.asked; kept = stays_twice a b z.kept same u.kept; wrote = u.wrote }
+
+goes_earlier : (r : Run) (a b : Told) (lead follow : Heard) (written : Option (List ℕ)) (z : Scene) (end : ClientEnd) → Stays a b → Goes r (scene b lead follow written) z end → Goes r (scene a lead follow written) z end
+goes_earlier r a b lead follow written z end same (Unsaved asked kept wrote is) = Unsaved asked (either_from a b z.kept r.kept same kept) wrote is
+goes_earlier r a b lead follow written z end same (Broken broke kept wrote) = Broken broke (if_from (saves_first r.phase) a b z.kept r.kept same kept) wrote
+goes_earlier r a b lead follow written z end same (RanOut frames went kept wrote is) = RanOut frames went (if_from (saves_first r.phase) a b z.kept r.kept same kept) wrote is
+goes_earlier r a b lead follow written z end same (Fell frames f went ended kept wrote is) = Fell frames f went ended (if_from (saves_first r.phase) a b z.kept r.kept same kept) wrote is
+goes_earlier r a b lead follow written z end same (Unkept frames o went ended keeps (inl now) wrote is) = Unkept frames o went ended keeps (inl (now_from a b z.kept r.kept same now)) wrote is
+goes_earlier r a b lead follow written z end same (Unkept frames o went ended keeps (inr now) wrote is) = Unkept frames o went ended keeps (inr (now_from a b z.kept (run_after r frames).kept same now)) wrote is
+goes_earlier r a b lead follow written z end same (Came frames o went ended good kept says) = Came frames o went ended good (if_from (saves_first r.phase) a b z.kept (run_after r frames).kept same kept) says
+
+acts_earlier : (k : KeptState) (seed : List ℕ) (t : Todo) (i i' : Input) (a b : Told) (lead follow : Heard) (written : Option (List ℕ)) (z : Scene) (end : ClientEnd) → Stays a b → Acts k seed t i i' (scene b lead follow written) z end → Acts k seed t i i' (scene a lead follow written) z end
+acts_earlier k seed t i i' a b lead follow written z end same (NotMade none u) = NotMade none (untouched_from a b lead follow written z same u)
+acts_earlier k seed t i i' a b lead follow written z end same (Refused text f has e u is) = Refused text f has e (untouched_from a b lead follow written z same u) is
+acts_earlier k seed t i i' a b lead follow written z end same (NoRoom text has u is) = NoRoom text has (untouched_from a b lead follow written z same u) is
+acts_earlier k seed t i i' a b lead follow written z end same (Began text r has begins goes) = Began text r has begins (goes_earlier r a b lead follow written z end same goes)
+
+acts_in_earlier : (r : Result KeptState StateFault) (seed : List ℕ) (t : Todo) (i i' : Input) (a b : Told) (lead follow : Heard) (written : Option (List ℕ)) (z : Scene) (end : ClientEnd) → Stays a b → ActsIn r seed t i i' (scene b lead follow written) z end → ActsIn r seed t i i' (scene a lead follow written) z end
+acts_in_earlier (Ok k) seed t i i' a b lead follow written z end same (range, acts) = (range, acts_earlier k seed t i i' a b lead follow written z end same acts)
+acts_in_earlier (Err f) seed t i i' a b lead follow written z end same ((unread, u), is) = ((unread, untouched_from a b lead follow written z same u), is)
+
+pub may_earlier : (r : Result KeptState StateFault) (seed : List ℕ) (t : Todo) (i i' : Input) (a b : Told) (lead follow : Heard) (written : Option (List ℕ)) (z : Scene) (end : ClientEnd) → Stays a b → MayAct r seed t i i' (scene b lead follow written) z end → MayAct r seed t i i' (scene a lead follow written) z end
+may_earlier r seed t i i' a b lead follow written z end same (inl ((unread, u), is)) = inl ((unread, untouched_from a b lead follow written z same u), is)
+may_earlier r seed t i i' a b lead follow written z end same (inr acts) = inr (acts_in_earlier r seed t i i' a b lead follow written z end same acts)
+
+pub begins_earlier : (first : KeptState) (a b c : Told) (written written' : Option (List ℕ)) (end : ClientEnd) → Stays a b → Begins first b c written written' end → Begins first a c written written' end
+begins_earlier first a b c written written' end same (run.Unsaved kept stays is) = run.Unsaved (either_from a b c first same kept) stays is
+begins_earlier first a b c written written' end same (run.Saved kept says) = run.Saved (now_from a b c first same kept) says
+
+-- ---- a command in a state that was read
+
+pub no_command : (r : Result KeptState StateFault) (k : KeptState) (seed : List ℕ) (t : Todo) (i i' : Input) (a : Scene) (end : ClientEnd) → r ≡ Ok k → IsKeptState k → NoCommand k t i i' end → MayAct r seed t i i' a a end
+no_command r k seed t i i' a end is range none = subst (λ (x : Result KeptState StateFault). MayAct x seed t i i' a a end) (sym is) (inr (range, NotMade none (untouched a)))
+
+went_on : (k : KeptState) (seed : List ℕ) (t : Todo) (c : Command) (i i' : Input) (a z : Scene) (end : ClientEnd) → HasCommand k t i i' (Ok c) → GoesFrom k seed c a z end → Acts k seed t i i' a z end
+went_on k seed t c i i' a z end (text, has, is) (NotBegun f e u e') = Refused text f has (ap (begun k seed) (sym is) ∙ e) u e'
+went_on k seed t c i i' a z end (text, has, is) (goes.NoRoom u e) = NoRoom text has u e
+went_on k seed t c i i' a z end (text, has, is) (IsBegun r e goes) = Began text r has (ap (begun k seed) (sym is) ∙ e) goes
+
+pub acts_on : (r : Result KeptState StateFault) (k : KeptState) (seed : List ℕ) (t : Todo) (c : Command) (i i' : Input) (a z : Scene) (end : ClientEnd) → r ≡ Ok k → IsKeptState k → HasCommand k t i i' (Ok c) → GoesFrom k seed c a z end → MayAct r seed t i i' a z end
+acts_on r k seed t c i i' a z end is range has goes = subst (λ (x : Result KeptState StateFault). MayAct x seed t i i' a z end) (sym is) (inr (range, went_on k seed t c i i' a z end has goes))
+
+-- ---- a line that was read
+
+pub runs_line : (r : Result Line UsageFault) (line : Line) (s s' : Start) (seed : List ℕ) (i i' : Input) (a z : Scene) (end : ClientEnd) → r ≡ Ok line → s ≡ start_of line → s ≡ s' → Loads s' seed i i' a z end → Runs r seed i i' a z end
+runs_line r line s s' seed i i' a z end is starts same loads =
+    subst (λ (x : Result Line UsageFault). Runs x seed i i' a z end) (sym is) (subst (λ (x : Start). Loads x seed i i' a z end) (sym same ∙ starts) loads)

@@ -1,0 +1,23 @@
+-- Why there is no command.
+use Rattle.std.proofs.Common.{◌≡◌, ℕ, Bool, List, [], Result, Ok, Err, refl, inl, inr}
+use Rattle.dory_bloom.specs.PlainRow.{plain_row_of}
+use Rattle.dory_words.specs.WordsIn.{words_in}
+use Rattle.dory_base.specs.declared.ids.DocId.{DocId}
+use Rattle.dory_state.specs.declared.kept.KeptState.{KeptState}
+use Rattle.dory_member.specs.declared.command.Command.TheVariants as command
+use Rattle.dory_member.specs.declared.outcome.Fault.{Fault}
+use Rattle.dory_member.specs.Course.{begun, folder_keys}
+use Rattle.dory_client.specs.declared.start.Todo.TheVariants.{Post}
+use Rattle.dory_client.specs.declared.end.ClientEnd.{ClientEnd}
+use Rattle.dory_client.specs.Command.{HasRow, NoCommand, Refused, NoText, NoRoom}
+use Rattle.dory_client.specs.Ends.{end_of}
+use Rattle.dory_client.specs.Scene.{Input}
+
+-- a post that is refused whatever its row is
+pub refused_post : (k : KeptState) (doc : DocId) (i : Input) (f : Fault) → ((seed : List ℕ) (d : DocId) (row : List Bool) → begun k seed (command.Post d row) ≡ Err f) → NoCommand k (Post doc) i i (end_of f)
+refused_post k doc i f always = Refused f (λ seed. always seed doc (plain_row_of (folder_keys k) k.shape (words_in []))) refl refl
+
+-- a post that has no row
+pub no_row : (k : KeptState) (doc : DocId) (i i' : Input) (end : ClientEnd) → HasRow k i i' (Err end) → NoCommand k (Post doc) i i' end
+no_row k doc i i' end (inl (e, has, is)) = NoText e has is
+no_row k doc i i' end (inr (text, has, is)) = NoRoom text has is

@@ -1,0 +1,326 @@
+-- An update that is done stands at one number in both histories.
+use Rattle.std.proofs.Common.{◌≡◌, ℕ, ◌+◌, ◌≤◌, Bool, true, false, cond, List, [], ◌∷◌, ◌++◌, append_assoc, Option, None, Some, Result, Ok, Err, refl, ap, sym, ◌∙◌, subst, inl, inr}
+use Rattle.std.specs.Prelude.{◌⊎◌, ⊤, ◌==◌, ◌&&◌, nat_lt}
+use Rattle.std.proofs.lemmas.Bool.{eqb-true, and_parts}
+use Rattle.std.proofs.lemmas.List.{append-nil}
+use Rattle.dory_base.specs.declared.entry.Entry.{Entry}
+use Rattle.dory_base.specs.declared.entry.Change.{Change}
+use Rattle.dory_base.specs.declared.entry.Change.TheVariants as change
+use Rattle.dory_base.specs.declared.ids.FolderId.{FolderId}
+use Rattle.dory_base.specs.declared.refusal.Refusal.{Refusal}
+use Rattle.dory_base.specs.declared.refusal.Refusal.TheVariants as refusal
+use Rattle.dory_base.proofs.SameLaws.{same_id-true}
+use Rattle.dory_base.specs.declared.ids.Side.{Side}
+use Rattle.dory_base.specs.declared.ids.Side.TheVariants as side
+use Rattle.dory_base.specs.declared.ids.UpdateId.{UpdateId}
+use Rattle.dory_wire.specs.declared.message.Request.{Request}
+use Rattle.dory_wire.specs.declared.message.Want.TheVariants as want
+use Rattle.dory_wire.specs.declared.message.What.{What}
+use Rattle.dory_wire.specs.declared.message.What.TheVariants as what
+use Rattle.dory_wire.specs.declared.message.What.TheVariants.{Committed}
+use Rattle.dory_link.specs.Told.{Heard, Told, Grown, Grows}
+use Rattle.dory_verify.specs.declared.fault.CheckFault.{CheckFault}
+use Rattle.dory_verify.specs.declared.fault.CheckFault.TheVariants as check
+use Rattle.dory_verify.specs.Checks.{same_id}
+use Rattle.dory_state.specs.declared.kept.KeptState.{KeptState}
+use Rattle.dory_member.specs.declared.outcome.Fault.{Fault}
+use Rattle.dory_member.specs.declared.outcome.Fault.TheVariants as fault
+use Rattle.dory_member.specs.declared.outcome.Mark.{Mark}
+use Rattle.dory_member.specs.declared.outcome.Outcome.{Outcome}
+use Rattle.dory_member.specs.declared.outcome.Outcome.TheVariants.{Posted, Removed, Accepted, NothingPending, Lengths, Rotated, Failed}
+use Rattle.dory_member.specs.declared.phase.Phase.{Phase}
+use Rattle.dory_member.specs.declared.phase.Phase.TheVariants.{Updating, Measuring, Searching, Ended}
+use Rattle.dory_member.specs.declared.phase.Run.{Run}
+use Rattle.dory_member.specs.declared.phase.Single.TheVariants as single
+use Rattle.dory_member.specs.declared.phase.UpdateStep.{UpdateStep}
+use Rattle.dory_member.specs.declared.phase.UpdateStep.TheVariants.{StageFollow, StageLead, OrderLead, FollowOn, WhichOther, FollowOther}
+use Rattle.dory_member.specs.Course.{Ask as Asking, after_fault, after_mark, after_refused, after_update, asks, ended_of, fails, finished, kept_at, name, outcome_at, phase_after, request_of, run_after, side_of, single_of, to, took, updated, want_of}
+use Rattle.dory_member.specs.Single.{confirmed, mark, said}
+use Rattle.dory_member.proofs.HeardLaws.{heard}
+use Rattle.dory_client.specs.Confirmed.{HasAt, ToldAt}
+use Rattle.dory_client.specs.Way.{Links, AskOver, Turned, Went}
+use Rattle.dory_client.proofs.Committed.{told_has, has_more}
+
+-- the links told from the beginning a of a command to now z, the lead has the update of this id at this number
+abbrev pub LeadHas : ℕ → Links → Links → ℕ → UpdateId → Type 0
+LeadHas folder a z number id = ToldAt a.lead.folders z.lead.folders folder number id
+
+abbrev pub FollowHas : ℕ → Links → Links → ℕ → UpdateId → Type 0
+FollowHas folder a z number id = ToldAt a.follow.folders z.follow.folders folder number id
+
+-- what is true of an update between its steps: from the lead's number on, the lead has it there
+abbrev pub AtStep : ℕ → Links → Links → UpdateId → UpdateStep → Type 0
+AtStep folder a z id StageFollow = ⊤
+AtStep folder a z id StageLead = ⊤
+AtStep folder a z id OrderLead = ⊤
+AtStep folder a z id (FollowOn number repaired) = LeadHas folder a z number id
+AtStep folder a z id (WhichOther number at) = LeadHas folder a z number id
+AtStep folder a z id (FollowOther number at other) = LeadHas folder a z number id
+
+-- what an outcome of the update of this entry says
+abbrev pub AtEnd : ℕ → Links → Links → Entry → Outcome → Type 0
+AtEnd folder a z e (Posted doc number) = (Posted doc number ≡ updated e.change e.doc number) × LeadHas folder a z number e.id × FollowHas folder a z number e.id
+AtEnd folder a z e (Removed doc number) = (Removed doc number ≡ updated e.change e.doc number) × LeadHas folder a z number e.id × FollowHas folder a z number e.id
+AtEnd folder a z e (Accepted answer) = ⊥
+AtEnd folder a z e NothingPending = ⊥
+AtEnd folder a z e (Lengths lead follow seen) = ⊥
+AtEnd folder a z e (Rotated epoch) = ⊥
+AtEnd folder a z e (Failed f) = ⊤
+
+-- what is true at a phase of an update of this entry
+abbrev pub At : ℕ → Links → Links → Entry → Phase → Type 0
+At folder a z e (Updating e' at) = (e' ≡ e) × AtStep folder a z e.id at
+At folder a z e (Measuring word lead) = ⊥
+At folder a z e (Searching q lead) = ⊥
+At folder a z e (Ended outcome) = AtEnd folder a z e outcome
+
+-- ---- histories that grow
+
+grown_same : (t : Option Told) → Grown t t
+grown_same None = tt
+grown_same (Some t) = record { shape = refl; retained = refl; history = ([], sym (append-nil t.history)) }
+
+pub grows_same : (f : Option (ℕ → Option Told)) → Grows f f
+grows_same None = tt
+grows_same (Some f) = λ folder. grown_same (f folder)
+
+grown_twice : (a b c : Option Told) → Grown a b → Grown b c → Grown a c
+grown_twice None None c p q = q
+grown_twice None (Some b) c p q = absurd p
+grown_twice (Some a) None c p q = absurd p
+grown_twice (Some a) (Some b) None p q = absurd q
+grown_twice (Some a) (Some b) (Some c) p q = record {
+  shape = q.shape ∙ p.shape;
+  retained = q.retained ∙ p.retained;
+  history = (p.history.0 ++ q.history.0, q.history.1 ∙ ap (λ (v : List Entry). v ++ q.history.0) p.history.1 ∙ append_assoc a.history p.history.0 q.history.0);
+}
+
+pub grows_twice : (a b c : Option (ℕ → Option Told)) → Grows a b → Grows b c → Grows a c
+grows_twice None b c p q = tt
+grows_twice (Some a) None c p q = absurd p
+grows_twice (Some a) (Some b) None p q = absurd q
+grows_twice (Some a) (Some b) (Some c) p q = λ folder. grown_twice (a folder) (b folder) (c folder) (p folder) (q folder)
+
+-- both links' folders are told on, grown
+pub record Grow (a z : Links) : Type 0 where
+  pub lead : Grows a.lead.folders z.lead.folders
+  pub follow : Grows a.follow.folders z.follow.folders
+
+pub grow_same : (a : Links) → Grow a a
+grow_same a = record { lead = grows_same a.lead.folders; follow = grows_same a.follow.folders }
+
+pub grow_twice : (a b c : Links) → Grow a b → Grow b c → Grow a c
+grow_twice a b c p q = record {
+  lead = grows_twice a.lead.folders b.lead.folders c.lead.folders p.lead q.lead;
+  follow = grows_twice a.follow.folders b.follow.folders c.follow.folders p.follow q.follow;
+}
+
+over_grows : (s : Side) (m z : Links) (r : Request) (frame : List ℕ) → AskOver s m z r frame → Grow m z
+over_grows side.Lead m z r frame (ask, same) = record { lead = ask.grown; follow = subst (λ (h : Heard). Grows m.follow.folders h.folders) (sym same) (grows_same m.follow.folders) }
+over_grows side.Follow m z r frame (same, ask) = record { lead = subst (λ (h : Heard). Grows m.lead.folders h.folders) (sym same) (grows_same m.lead.folders); follow = ask.grown }
+
+pub turned_grows : (run : Run) (o : Option Asking) (m z : Links) (frame : List ℕ) → Turned run o m z frame → Grow m z
+turned_grows run None m z frame t = absurd t
+turned_grows run (Some ask) m z frame t = over_grows ask.side m z (request_of run ask) frame t
+
+-- ---- what a told domain has, from an earlier beginning and to a later end
+
+told_earlier : (a m z : Option (ℕ → Option Told)) (folder number : ℕ) (id : UpdateId) → Grows a m → ToldAt m z folder number id → ToldAt a z folder number id
+told_earlier None m z folder number id g t = tt
+told_earlier (Some a) None z folder number id g t = absurd g
+told_earlier (Some a) (Some m) None folder number id g t = absurd t
+told_earlier (Some a) (Some m) (Some z) folder number id g t = t
+
+still_there : (x y : Option Told) (t : Told) (number : ℕ) (id : UpdateId) → x ≡ Some t → Grown x y → HasAt t.history number id → (u : Told) × (y ≡ Some u) × HasAt u.history number id
+still_there None y t number id e g h = absurd (cc)
+still_there (Some x) None t number id e g h = absurd g
+still_there (Some x) (Some y) t number id e g h =
+    let same : t ≡ x = cc in
+    (y, refl, has_more x.history y.history number id g.history (subst (λ (v : Told). HasAt v.history number id) same h))
+
+told_later : (a m z : Option (ℕ → Option Told)) (folder number : ℕ) (id : UpdateId) → Grows m z → ToldAt a m folder number id → ToldAt a z folder number id
+told_later None m z folder number id g t = tt
+told_later (Some a) None z folder number id g t = absurd t
+told_later (Some a) (Some m) None folder number id g t = absurd g
+told_later (Some a) (Some m) (Some z) folder number id g (t, is, h) = still_there (m folder) (z folder) t number id is (g folder) h
+
+-- ---- what a reply that confirms says
+
+abbrev ok_mark : Mark → Result Mark Fault
+ok_mark m = Ok m
+
+confirmed_if : (b : Bool) (s : Side) (w g m : Mark) → cond b (ok_mark g) (Err (fault.Unconfirmed s w g)) ≡ ok_mark m → (b ≡ true) × (g ≡ m)
+confirmed_if true s w g m e = (refl, cc)
+confirmed_if false s w g m e = absurd (cc)
+
+order_says : (s : Side) (i : UpdateId) (w : What) (m : Mark) → said s (single.Order i) w ≡ Ok m → w ≡ Committed m.number i
+order_says s i (what.At length) m e = absurd (cc)
+order_says s i (what.Found f) m e = absurd (cc)
+order_says s i (what.Id number id) m e = absurd (cc)
+order_says s i (what.Staged id) m e = absurd (cc)
+order_says s i (what.Refused code) m e = absurd (cc)
+order_says s i (what.Committed number id) m e =
+    let p = confirmed_if ((number == number) && same_id i id) s (mark number i) (mark number id) m e in
+    let same : i ≡ id = same_id-true i id (and_parts (number == number) (same_id i id) p.0).1 in
+    let n : number ≡ m.number = ap (λ (x : Mark). x.number) p.1 in
+    λ j. Committed (n j) (sym same j)
+
+follow_says : (s : Side) (n : ℕ) (i : UpdateId) (w : What) (m : Mark) → said s (single.Follow n i) w ≡ Ok m → w ≡ Committed n i
+follow_says s n i (what.At length) m e = absurd (cc)
+follow_says s n i (what.Found f) m e = absurd (cc)
+follow_says s n i (what.Id number id) m e = absurd (cc)
+follow_says s n i (what.Staged id) m e = absurd (cc)
+follow_says s n i (what.Refused code) m e = absurd (cc)
+follow_says s n i (what.Committed number id) m e =
+    let p = confirmed_if ((n == number) && same_id i id) s (mark n i) (mark number id) m e in
+    let both = and_parts (n == number) (same_id i id) p.0 in
+    let same : i ≡ id = same_id-true i id both.1 in
+    let k : n ≡ number = eqb-true n number both.0 in
+    λ j. Committed (sym k j) (sym same j)
+
+-- ---- where a fault of a first Follow leads
+
+abbrev Leads : Entry → ℕ → Fault → Type 0
+Leads e number f = ((at : ℕ) × (after_refused e number f ≡ Updating e (WhichOther number at))) ⊎ (after_refused e number f ≡ fails f)
+
+gap_leads : (b : Bool) (e : Entry) (number at : ℕ) (f : Fault) → ((k : ℕ) × (cond b (Updating e (WhichOther number at)) (fails f) ≡ Updating e (WhichOther number k))) ⊎ (cond b (Updating e (WhichOther number at)) (fails f) ≡ fails f)
+gap_leads true e number at f = inl (at, refl)
+gap_leads false e number at f = inr refl
+
+code_leads : (e : Entry) (number : ℕ) (s : Side) (code : Refusal) → Leads e number (fault.Check (check.Refused s code))
+code_leads e number side.Lead code = inr refl
+code_leads e number side.Follow (refusal.Gap l) = gap_leads (nat_lt (l + 1) number) e number (l + 1) (fault.Check (check.Refused side.Follow (refusal.Gap l)))
+code_leads e number side.Follow refusal.NoFolder = inr refl
+code_leads e number side.Follow (refusal.ShapeWrong depth probes) = inr refl
+code_leads e number side.Follow (refusal.Unretained oldest newest) = inr refl
+code_leads e number side.Follow (refusal.BadMember member) = inr refl
+code_leads e number side.Follow (refusal.Past last) = inr refl
+code_leads e number side.Follow (refusal.Clash id) = inr refl
+code_leads e number side.Follow (refusal.Unfinished id) = inr refl
+code_leads e number side.Follow (refusal.Unstaged id) = inr refl
+code_leads e number side.Follow (refusal.Taken n id) = inr refl
+code_leads e number side.Follow (refusal.WrongRole role) = inr refl
+code_leads e number side.Follow refusal.HistoryFull = inr refl
+code_leads e number side.Follow (refusal.NoEntry length) = inr refl
+code_leads e number side.Follow refusal.NoMemory = inr refl
+
+check_leads : (e : Entry) (number : ℕ) (c : CheckFault) → Leads e number (fault.Check c)
+check_leads e number (check.Form s at) = inr refl
+check_leads e number (check.Echo s asked got) = inr refl
+check_leads e number (check.Refused s code) = code_leads e number s code
+check_leads e number (check.Version s asked got) = inr refl
+check_leads e number (check.Stale s latest seen) = inr refl
+check_leads e number (check.Manifest place) = inr refl
+check_leads e number (check.Count s got want) = inr refl
+check_leads e number (check.TagSum probe got want) = inr refl
+
+leads : (e : Entry) (number : ℕ) (f : Fault) → Leads e number f
+leads e number (fault.Check c) = check_leads e number c
+leads e number (fault.Unconfirmed s want got) = inr refl
+leads e number (fault.Diverged n lead_id follow_id) = inr refl
+leads e number (fault.Unfinished id) = inr refl
+leads e number fault.SerialEnd = inr refl
+leads e number fault.EpochEnd = inr refl
+leads e number fault.NoMemory = inr refl
+
+refused_at : (folder : ℕ) (a z : Links) (e : Entry) (number : ℕ) (f : Fault) → LeadHas folder a z number e.id → At folder a z e (after_refused e number f)
+refused_at folder a z e number f has = by (leads e number f)
+  where
+    by : Leads e number f → At folder a z e (after_refused e number f)
+    by (inl (at, is)) = subst (At folder a z e) (sym is) (refl, has)
+    by (inr is) = subst (At folder a z e) (sym is) tt
+
+fault_at : (folder : ℕ) (a z : Links) (e : Entry) (at : UpdateStep) (f : Fault) → AtStep folder a z e.id at → At folder a z e (after_fault e at f)
+fault_at folder a z e StageFollow f has = tt
+fault_at folder a z e StageLead f has = tt
+fault_at folder a z e OrderLead f has = tt
+fault_at folder a z e (FollowOn number false) f has = refused_at folder a z e number f has
+fault_at folder a z e (FollowOn number true) f has = tt
+fault_at folder a z e (WhichOther number at) f has = tt
+fault_at folder a z e (FollowOther number at id) f has = tt
+
+-- ---- one step of an update
+
+ended_at : (folder : ℕ) (a z : Links) (e : Entry) (c : Change) (number : ℕ) → e.change ≡ c → LeadHas folder a z number e.id → FollowHas folder a z number e.id → AtEnd folder a z e (updated c e.doc number)
+ended_at folder a z e (change.Post shape row tags) number is lead follow = (ap (λ (x : Change). updated x e.doc number) (sym is), lead, follow)
+ended_at folder a z e change.Remove number is lead follow = (ap (λ (x : Change). updated x e.doc number) (sym is), lead, follow)
+
+repaired_at : (b : Bool) (folder : ℕ) (a z : Links) (e : Entry) (number at : ℕ) → LeadHas folder a z number e.id → At folder a z e (cond b (Updating e (WhichOther number (at + 1))) (Updating e (FollowOn number true)))
+repaired_at true folder a z e number at has = (refl, has)
+repaired_at false folder a z e number at has = (refl, has)
+
+step_later : (folder : ℕ) (a m z : Links) (id : UpdateId) (at : UpdateStep) → Grow m z → AtStep folder a m id at → AtStep folder a z id at
+step_later folder a m z id StageFollow g h = tt
+step_later folder a m z id StageLead g h = tt
+step_later folder a m z id OrderLead g h = tt
+step_later folder a m z id (FollowOn number repaired) g h = told_later a.lead.folders m.lead.folders z.lead.folders folder number id g.lead h
+step_later folder a m z id (WhichOther number at) g h = told_later a.lead.folders m.lead.folders z.lead.folders folder number id g.lead h
+step_later folder a m z id (FollowOther number at other) g h = told_later a.lead.folders m.lead.folders z.lead.folders folder number id g.lead h
+
+mark_at : (a m z : Links) (run : Run) (e : Entry) (at : UpdateStep) (frame : List ℕ) (k : Mark) → Grow a m → AtStep run.kept.folder.0 a m e.id at → AskOver (side_of at) m z (request_of run (to (side_of at) (want_of e (single_of e.id at)))) frame
+    → confirmed (side_of at) (single_of e.id at) (name run run.step) frame ≡ Ok k → At run.kept.folder.0 a z e (after_mark e at k)
+mark_at a m z run e StageFollow frame k g has over is = (refl, tt)
+mark_at a m z run e StageLead frame k g has over is = (refl, tt)
+mark_at a m z run e OrderLead frame k g has (ask, same) is =
+    let h = heard side.Lead (single.Order e.id) (name run run.step) frame k is in
+    let says : h.reply.what ≡ Committed k.number e.id = order_says side.Lead e.id h.reply.what k h.says in
+    let r : Request = request_of run (to side.Lead (want.Order e.id)) in
+    let now : ToldAt m.lead.folders z.lead.folders run.kept.folder.0 k.number e.id = told_has m.lead.folders z.lead.folders r frame h.reply k.number e.id tt ask.replies h.came says in
+    (refl, told_earlier a.lead.folders m.lead.folders z.lead.folders run.kept.folder.0 k.number e.id g.lead now)
+mark_at a m z run e (FollowOn number repaired) frame k g has (same, ask) is =
+    let h = heard side.Follow (single.Follow number e.id) (name run run.step) frame k is in
+    let says : h.reply.what ≡ Committed number e.id = follow_says side.Follow number e.id h.reply.what k h.says in
+    let r : Request = request_of run (to side.Follow (want.Follow number e.id)) in
+    let now : ToldAt m.follow.folders z.follow.folders run.kept.folder.0 number e.id = told_has m.follow.folders z.follow.folders r frame h.reply number e.id ask.in_range.want.0.some ask.replies h.came says in
+    let grows : Grow m z = over_grows side.Follow m z r frame (same, ask) in
+    ended_at run.kept.folder.0 a z e e.change number refl (told_later a.lead.folders m.lead.folders z.lead.folders run.kept.folder.0 number e.id grows.lead has)
+    (told_earlier a.follow.folders m.follow.folders z.follow.folders run.kept.folder.0 number e.id g.follow now)
+mark_at a m z run e (WhichOther number at) frame k g has over is = (refl, step_later run.kept.folder.0 a m z e.id (WhichOther number at) (over_grows side.Lead m z _ frame over) has)
+mark_at a m z run e (FollowOther number at id) frame k g has over is =
+    repaired_at (nat_lt (at + 1) number) run.kept.folder.0 a z e number at (step_later run.kept.folder.0 a m z e.id (FollowOther number at id) (over_grows side.Follow m z _ frame over) has)
+
+after_at : (a m z : Links) (run : Run) (e : Entry) (at : UpdateStep) (frame : List ℕ) (r : Result Mark Fault) → Grow a m → AtStep run.kept.folder.0 a m e.id at → AskOver (side_of at) m z (request_of run (to (side_of at) (want_of e (single_of e.id at)))) frame
+    → confirmed (side_of at) (single_of e.id at) (name run run.step) frame ≡ r → At run.kept.folder.0 a z e (after_update e at r)
+after_at a m z run e at frame (Ok k) g has over is = mark_at a m z run e at frame k g has over is
+after_at a m z run e at frame (Err f) g has over is = fault_at run.kept.folder.0 a z e at f (step_later run.kept.folder.0 a m z e.id at (over_grows (side_of at) m z (request_of run (to (side_of at) (want_of e (single_of e.id at)))) frame over) has)
+
+-- ---- a whole update
+
+ended_folder : (k : KeptState) (o : Outcome) → (finished k o).folder ≡ k.folder
+ended_folder k (Posted doc number) = refl
+ended_folder k (Removed doc number) = refl
+ended_folder k (Accepted answer) = refl
+ended_folder k NothingPending = refl
+ended_folder k (Lengths lead follow seen) = refl
+ended_folder k (Rotated epoch) = refl
+ended_folder k (Failed f) = refl
+
+pub kept_folder : (k : KeptState) (p : Phase) → (kept_at k p).folder ≡ k.folder
+kept_folder k (Updating e at) = refl
+kept_folder k (Measuring word lead) = refl
+kept_folder k (Searching q lead) = refl
+kept_folder k (Ended o) = ended_folder k o
+
+-- from a phase of an update to its end
+by_phase : (run : Run) (p : Phase) (frames : List (List ℕ)) (a m z : Links) (e : Entry) (o : Outcome) → run.phase ≡ p → Grow a m → At run.kept.folder.0 a m e p → Went run frames m z → outcome_at (run_after run frames).phase ≡ Some o → AtEnd run.kept.folder.0 a z e o × Grow a z
+by_phase run (Measuring word lead) frames a m z e o is g at went ends = absurd at
+by_phase run (Searching q lead) frames a m z e o is g at went ends = absurd at
+by_phase run (Updating e' at) [] a m z e o is g h went ends = absurd (let none : outcome_at run.phase ≡ None = ap outcome_at is in cc)
+by_phase run (Updating e' at) (f ∷ frames) a m z e o is g (same, has) (n, turned, more) ends =
+    let over : AskOver (side_of at) m n (request_of run (to (side_of at) (want_of e' (single_of e'.id at)))) f = subst (λ (p : Phase). Turned run (asks p) m n f) is turned in
+    let grows : Grow m n = over_grows (side_of at) m n (request_of run (to (side_of at) (want_of e' (single_of e'.id at)))) f over in
+    let has' : AtStep run.kept.folder.0 a m e'.id at = subst (λ (x : Entry). AtStep run.kept.folder.0 a m x.id at) (sym same) has in
+    let next : At run.kept.folder.0 a n e' (phase_after run (Updating e' at) f) = after_at a m n run e' at f (confirmed (side_of at) (single_of e'.id at) (name run run.step) f) g has' over refl in
+    let next' : At run.kept.folder.0 a n e (phase_after run run.phase f) = subst (λ (x : Entry). At run.kept.folder.0 a n x (phase_after run run.phase f)) same (subst (λ (p : Phase). At run.kept.folder.0 a n e' (phase_after run p f)) (sym is) next) in
+    let folder : (took run f).kept.folder ≡ run.kept.folder = kept_folder run.kept (phase_after run run.phase f) in
+    let next'' : At (took run f).kept.folder.0 a n e (took run f).phase = subst (λ (x : FolderId). At x.0 a n e (phase_after run run.phase f)) (sym folder) next' in
+    let rest = by_phase (took run f) (took run f).phase frames a n z e o refl (grow_twice a m n g grows) next'' more ends in
+    (subst (λ (x : FolderId). AtEnd x.0 a z e o) folder rest.0, rest.1)
+by_phase run (Ended x) [] a m z e o is g at went ends =
+    let same : x ≡ o = let now : outcome_at run.phase ≡ Some x = ap outcome_at is in cc in
+    (subst (λ (l : Links). AtEnd run.kept.folder.0 a l e o) (sym went) (subst (AtEnd run.kept.folder.0 a m e) same at), subst (Grow a) (sym went) g)
+by_phase run (Ended x) (f ∷ frames) a m z e o is g at (n, turned, more) ends = absurd (subst (λ (p : Phase). Turned run (asks p) m n f) is turned)
+
+-- an update that ended stands at its number in both histories
+pub update_ended : (run : Run) (e : Entry) (frames : List (List ℕ)) (a z : Links) (o : Outcome) → run.phase ≡ Updating e StageFollow → Went run frames a z → ended_of run frames ≡ Some o → AtEnd run.kept.folder.0 a z e o × Grow a z
+update_ended run e frames a z o is went ends = by_phase run (Updating e StageFollow) frames a a z e o is (grow_same a) (refl, tt) went ends

@@ -1,0 +1,11 @@
+use Rattle.dory_client.proofs.Commands.{no_row, refused_post}
+use Rattle.dory_client.proofs.command.command_of.Goals as goal
+
+pub returns-in-Plain-clause-fits : goal.returns-in-Plain-clause-fits
+returns-in-Plain-clause-fits g c = (rw c.in-Plain.is at c.requires.todo) c.args.state.now.shape
+
+pub returns-in-Some-clause-command : goal.returns-in-Some-clause-command
+returns-in-Some-clause-command g c = rw c.in-Post.is (rw c.end_of.ensures (refused_post c.args.state.now c.in-Post.doc _ c.in-Some.fault c.in-Some.ensures))
+
+pub returns-in-Err-clause-command : goal.returns-in-Err-clause-command
+returns-in-Err-clause-command g c = rw c.in-Post.is (no_row c.args.state.now c.in-Post.doc _ _ c.in-Err.end c.in-Err.ensures.row)

@@ -1,0 +1,96 @@
+-- What a command that is done did: which update both domains have at one number, and how far the member has seen.
+use Rattle.std.specs.Prelude.{ℕ, ◌≡◌, ◌≤◌, ◌-◌, ⊤, List, [], ◌∷◌, length, slice_get, Option, Some, None, Result, Ok, Err}
+use Rattle.std.specs.Io.KnownBytes.{Appends}
+use Rattle.dory_base.specs.Step.{ids_of}
+use Rattle.dory_base.specs.declared.entry.Entry.{Entry}
+use Rattle.dory_base.specs.declared.ids.UpdateId.{UpdateId}
+use Rattle.dory_io.specs.Bytes.{Tells}
+use Rattle.dory_link.specs.Told.{Told}
+use Rattle.dory_cli.specs.Line.{line_of as read_of}
+use Rattle.dory_cli.specs.declared.line.Line.{Line}
+use Rattle.dory_cli.specs.declared.fault.UsageFault.{UsageFault}
+use Rattle.dory_state.specs.declared.kept.KeptState.{KeptState}
+use Rattle.dory_state.specs.Spelling.{IsKeptState}
+use Rattle.dory_state.specs.Reading.{state_of}
+use Rattle.dory_member.specs.declared.outcome.Outcome.{Outcome}
+use Rattle.dory_member.specs.declared.phase.Phase.{Phase}
+use Rattle.dory_member.specs.declared.phase.Phase.TheVariants.{Updating, Measuring, Searching, Ended}
+use Rattle.dory_member.specs.declared.phase.Run.{Run}
+use Rattle.dory_member.specs.Course.{begun, updated}
+use Rattle.dory_client.specs.declared.start.Todo.{Todo}
+use Rattle.dory_client.specs.declared.start.Start.{Start}
+use Rattle.dory_client.specs.declared.start.Start.TheVariants.{Init, Act}
+use Rattle.dory_client.specs.Command.{HasText}
+use Rattle.dory_client.specs.Goes.{line_of}
+use Rattle.dory_client.specs.Kept.{KeepsOf}
+use Rattle.dory_client.specs.Scene.{Input, Scene}
+use Rattle.dory_client.specs.Start.{start_of, command_of}
+
+-- a history has the update of this id at this number, counted from 1
+pub record HasAt (history : List Entry) (number : ℕ) (id : UpdateId) : Type 0 where
+  pub counted : 1 ≤ number
+  pub there : slice_get (ids_of history) (number - 1) ≡ Some id
+
+-- where folders are told, this one is there, and its history has the update at this number
+abbrev pub ToldAt : Option (ℕ → Option Told) → Option (ℕ → Option Told) → ℕ → ℕ → UpdateId → Type 0
+ToldAt None now folder number id = ⊤
+ToldAt (Some before) None folder number id = ⊥
+ToldAt (Some before) (Some now) folder number id = (t : Told) × (now folder ≡ Some t) × HasAt t.history number id
+
+-- both domains have the update at one number, which was written
+pub record IsConfirmed (folder : ℕ) (e : Entry) (a z : Scene) : Type 0 where
+  pub number : ℕ
+  pub by_lead : ToldAt a.lead.folders z.lead.folders folder number e.id
+  pub by_follow : ToldAt a.follow.folders z.follow.folders folder number e.id
+  pub written : Appends a.written z.written (line_of (updated e.change e.doc number))
+
+-- the same of a command that works on an update
+abbrev pub Confirms : ℕ → Phase → Scene → Scene → Type 0
+Confirms folder (Updating e at) a z = IsConfirmed folder e a z
+Confirms folder (Measuring word lead) a z = ⊤
+Confirms folder (Searching q lead) a z = ⊤
+Confirms folder (Ended outcome) a z = ⊤
+
+-- a version seen that a folder's history has, before and after: where it had the one seen before, it has the one seen now
+abbrev pub SeenOf : Option Told → Option Told → ℕ → ℕ → Type 0
+SeenOf None now before after = ⊤
+SeenOf (Some old) None before after = ⊥
+SeenOf (Some old) (Some new) before after = before ≤ length old.history → after ≤ length new.history
+
+-- the same where folders are told
+abbrev pub SeenBy : Option (ℕ → Option Told) → Option (ℕ → Option Told) → ℕ → ℕ → ℕ → Type 0
+SeenBy None now folder before after = ⊤
+SeenBy (Some old) None folder before after = ⊥
+SeenBy (Some old) (Some new) folder before after = SeenOf (old folder) (new folder) before after
+
+-- a command that was done in a state
+pub record IsDone (k : KeptState) (run : Run) (a z : Scene) : Type 0 where
+  pub last : KeptState
+  pub kept : KeepsOf run a.kept z.kept last
+  pub rises : k.seen ≤ last.seen
+  pub lead_seen : SeenBy a.lead.folders z.lead.folders k.folder.0 k.seen last.seen
+  pub follow_seen : SeenBy a.follow.folders z.follow.folders k.folder.0 k.seen last.seen
+  pub confirmed : Confirms k.folder.0 run.phase a z
+
+-- the command of a line, in the state that is kept, and its run
+pub record IsBegun (t : Todo) (seed : List ℕ) (i i' : Input) (a : Scene) (k : KeptState) (run : Run) : Type 0 where
+  pub bytes : List ℕ
+  pub text : List ℕ
+  pub is_kept : Tells a.kept (Some bytes)
+  pub is_state : state_of bytes ≡ Ok k
+  pub in_range : IsKeptState k
+  pub has_text : HasText t i i' text
+  pub begins : begun k seed (command_of k text t) ≡ Ok run
+
+-- a line that was done: a first state, or a command in the state that is kept
+abbrev pub DoesStart : Start → List ℕ → Input → Input → Scene → Scene → Type 0
+DoesStart (Init first) seed i i' a z = ⊤
+DoesStart (Act t) seed i i' a z = (k : KeptState) × (run : Run) × IsBegun t seed i i' a k run × IsDone k run a z
+
+abbrev pub DoesLine : Result Line UsageFault → List ℕ → Input → Input → Scene → Scene → Type 0
+DoesLine (Ok line) seed i i' a z = DoesStart (start_of line) seed i i' a z
+DoesLine (Err fault) seed i i' a z = ⊥
+
+-- what words that were done did
+abbrev pub Does : List (List ℕ) → List ℕ → Input → Input → Scene → Scene → Type 0
+Does words seed i i' a z = DoesLine (read_of words) seed i i' a z

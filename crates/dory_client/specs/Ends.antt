@@ -1,0 +1,33 @@
+-- The ends of a call.
+use Rattle.std.specs.Prelude.{◌≡◌, ◌⊎◌}
+use Rattle.dory_base.specs.declared.ids.Side.{Side}
+use Rattle.dory_member.specs.declared.outcome.Fault.{Fault}
+use Rattle.dory_member.specs.declared.outcome.Fault.TheVariants as fault
+use Rattle.dory_client.specs.declared.input.InputEnd.{InputEnd}
+use Rattle.dory_client.specs.declared.input.InputEnd.TheVariants as input
+use Rattle.dory_client.specs.declared.end.ClientEnd.{ClientEnd}
+use Rattle.dory_client.specs.declared.end.ClientEnd.TheVariants as ends
+
+-- the end at a command's fault
+abbrev pub end_of : Fault → ClientEnd
+end_of (fault.Check f) = ends.Check f
+end_of (fault.Unconfirmed side want got) = ends.Unconfirmed side want got
+end_of (fault.Diverged number lead_id follow_id) = ends.Diverged number lead_id follow_id
+end_of (fault.Unfinished id) = ends.Unfinished id
+end_of fault.SerialEnd = ends.SerialEnd
+end_of fault.EpochEnd = ends.EpochEnd
+end_of fault.NoMemory = ends.NoMemory
+
+-- the end where a text wasn't read
+abbrev pub input_end : InputEnd → ClientEnd
+input_end input.Fault = ends.InputFault
+input_end input.Long = ends.InputLong
+input_end input.NoMemory = ends.NoMemory
+
+-- the end of an ask that brought no frame
+abbrev pub FailsAs : Side → ClientEnd → Type 0
+FailsAs side end = (end ≡ ends.LinkFault side) ⊎ (end ≡ ends.NoMemory)
+
+-- the end of a load or a save that failed
+abbrev pub IsKeeperEnd : ClientEnd → Type 0
+IsKeeperEnd end = (end ≡ ends.KeeperFault) ⊎ (end ≡ ends.NoMemory)
