@@ -26,6 +26,7 @@ mod work;
 use crate::fault::Fault;
 use crate::line::{Line, read_line};
 use crate::report::{check, time};
+use dory_kernel::{RowKernel, lane_parity};
 use std::alloc::Global;
 use std::env;
 use std::process::ExitCode;
@@ -68,19 +69,19 @@ fn put<R: Print>(rt: &R, text: &str) -> Result<(), Fault> {
 }
 
 /// Does what the words ask for.
-fn obey<R: Env + AllocGlobal + Clock + Print>(rt: &R) -> Result<(), Fault> {
+fn obey<R: Env + AllocGlobal + Clock + Print>(rt: &R, kernel: &RowKernel) -> Result<(), Fault> {
     let alloc: Global = rt.alloc();
     let words = typed_words(rt)?;
     match read_line(alloc, &words)? {
         Line::Help => put(rt, HELP),
         Line::Version => put(rt, VERSION),
-        Line::Check(rows) => check(rt, alloc, &rows),
-        Line::Time(rows) => time(rt, alloc, &rows),
+        Line::Check(rows) => check(rt, alloc, kernel, &rows),
+        Line::Time(rows) => time(rt, alloc, kernel, &rows),
     }
 }
 
 fn main(rt: HostRuntime) -> ExitCode {
-    match obey(&rt) {
+    match obey(&rt, &RowKernel::new(lane_parity)) {
         Ok(()) => ExitCode::from(0),
         Err(fault) => {
             let _ = eprintln!(rt; "dory_bench: {fault}");

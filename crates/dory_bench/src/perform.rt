@@ -2,7 +2,7 @@
 
 use crate::fault::Fault;
 use crate::run::Run;
-use crate::work::{Asked, Message, Work};
+use crate::work::{Asked, Filling, Message, Work};
 use crate::{
     checking, coding, hashing, scanning, sealing, searching, stepping, texts, tree, versions,
 };
@@ -29,21 +29,23 @@ pub fn perform<R: Clock>(run: &mut Run<R>, work: Work) -> Result<(), Fault> {
         Work::Encode(Message::Found) => coding::encode_found(run),
         Work::Decode(Message::Found) => coding::decode_found(run),
         Work::NextVersion => versions::updates(run),
+        Work::Parity => scanning::parities(run),
         Work::Scan(selectors) => scanning::scans(run, selectors),
         Work::Verify => checking::verified(run),
-        Work::Step(asked) => step(run, asked),
-        Work::Search => searching::searches(run),
+        Work::Step(asked, filling) => step(run, asked, filling),
+        Work::Search => searching::searches(run, if run.is_full() { 4096 } else { 96 }),
     }
 }
 
 /// Steps of a domain at one kind of request.
-fn step<R: Clock>(run: &mut Run<R>, asked: Asked) -> Result<(), Fault> {
+fn step<R: Clock>(run: &mut Run<R>, asked: Asked, filling: Filling) -> Result<(), Fault> {
+    let rounds = stepping::rounds(run, filling);
     match asked {
-        Asked::Latest => stepping::latest(run),
-        Asked::Search => stepping::search(run),
-        Asked::Which => stepping::which(run),
-        Asked::Stage => stepping::stages(run),
-        Asked::Order => stepping::orders(run),
-        Asked::Follow => stepping::follows(run),
+        Asked::Latest => stepping::latest(run, rounds),
+        Asked::Search => stepping::search(run, rounds),
+        Asked::Which => stepping::which(run, rounds),
+        Asked::Stage => stepping::stages(run, rounds),
+        Asked::Order => stepping::orders(run, rounds),
+        Asked::Follow => stepping::follows(run, rounds),
     }
 }

@@ -5,6 +5,7 @@ use crate::known::print_known;
 use crate::perform::perform;
 use crate::run::{Run, Scale};
 use crate::table::Row;
+use dory_kernel::RowKernel;
 use std::alloc::Global;
 use std::rt::Clock;
 
@@ -22,10 +23,15 @@ struct Timed {
 }
 
 /// Does each piece of work a few times at a small size, and prints its checksum.
-pub fn check<R: Clock + Print>(rt: &R, alloc: Global, rows: &[Row]) -> Result<(), Fault> {
+pub fn check<R: Clock + Print>(
+    rt: &R,
+    alloc: Global,
+    kernel: &RowKernel,
+    rows: &[Row],
+) -> Result<(), Fault> {
     print_known(rt)?;
     for row in rows {
-        let mut run = Run::new(rt, alloc, Scale::Small, FEW);
+        let mut run = Run::new(rt, alloc, kernel, Scale::Small, FEW);
         perform(&mut run, row.work)?;
         let name = row.name;
         let sum = run.sum.value();
@@ -36,8 +42,8 @@ pub fn check<R: Clock + Print>(rt: &R, alloc: Global, rows: &[Row]) -> Result<()
 }
 
 /// The time of an operation, in tenths of a nanosecond.
-fn measured<R: Clock>(rt: &R, alloc: Global, row: &Row) -> Result<u64, Fault> {
-    let mut run = Run::new(rt, alloc, Scale::Full, row.turns);
+fn measured<R: Clock>(rt: &R, alloc: Global, kernel: &RowKernel, row: &Row) -> Result<u64, Fault> {
+    let mut run = Run::new(rt, alloc, kernel, Scale::Full, row.turns);
     perform(&mut run, row.work)?;
     let operations = u64::from(row.turns) * u64::from(row.operations);
     let tenths = run.spent().saturating_mul(10);
@@ -45,7 +51,12 @@ fn measured<R: Clock>(rt: &R, alloc: Global, row: &Row) -> Result<u64, Fault> {
 }
 
 /// Times the rows in turn, and prints the least time of each.
-pub fn time<R: Clock + Print>(rt: &R, alloc: Global, rows: &[Row]) -> Result<(), Fault> {
+pub fn time<R: Clock + Print>(
+    rt: &R,
+    alloc: Global,
+    kernel: &RowKernel,
+    rows: &[Row],
+) -> Result<(), Fault> {
     let mut table = Vec::new(alloc);
     for row in rows {
         table.push(Timed {
@@ -56,7 +67,7 @@ pub fn time<R: Clock + Print>(rt: &R, alloc: Global, rows: &[Row]) -> Result<(),
     for round in 0..ROUNDS {
         for timed in table.iter_mut() {
             if round < timed.row.rounds {
-                let tenths = measured(rt, alloc, &timed.row)?;
+                let tenths = measured(rt, alloc, kernel, &timed.row)?;
                 timed.least = timed.least.min(tenths);
             }
         }

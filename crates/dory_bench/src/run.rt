@@ -5,6 +5,7 @@ use crate::fault::Fault;
 use crate::names::shape;
 use crate::work::Depth;
 use dory_base::Shape;
+use dory_kernel::RowKernel;
 use std::alloc::Global;
 use std::rt::Clock;
 use std::time::Instant;
@@ -18,11 +19,12 @@ pub enum Scale {
     Full,
 }
 
-/// The scale, the clock, and what was spent and made so far.
+/// The scale, the clock, the kernel of scans, and what was spent and made so far.
 #[derive(Drop)]
 pub struct Run<'a, R> {
     clock: &'a R,
     pub alloc: Global,
+    pub kernel: &'a RowKernel,
     scale: Scale,
     /// How often the work is done.
     pub turns: u32,
@@ -31,10 +33,17 @@ pub struct Run<'a, R> {
 }
 
 impl<'a, R: Clock> Run<'a, R> {
-    pub fn new(clock: &'a R, alloc: Global, scale: Scale, turns: u32) -> Run<'a, R> {
+    pub fn new(
+        clock: &'a R,
+        alloc: Global,
+        kernel: &'a RowKernel,
+        scale: Scale,
+        turns: u32,
+    ) -> Run<'a, R> {
         Run {
             clock,
             alloc,
+            kernel,
             scale,
             turns,
             sum: Checksum::new(matches!(scale, Scale::Small)),

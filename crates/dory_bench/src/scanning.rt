@@ -10,7 +10,7 @@ use crate::work::Selectors;
 use dory_base::{Bits, Shape, Word};
 use dory_chunks::Version;
 use dory_hmac::FolderKeys;
-use dory_kernel::{RowKernel, lane_parity};
+use dory_kernel::RowKernel;
 use dory_scan::scan;
 use dory_words::words_of;
 use std::alloc::Global;
@@ -33,11 +33,10 @@ fn for_one<R: Clock>(
 ) -> Result<(), Fault>
     requires { version.now.shape ≡ shape }
 {
-    let kernel = RowKernel::new(lane_parity);
     let selectors = [selector(run.alloc, shape, words, 0)?];
     let start = run.start()?;
     for _ in 0..run.turns {
-        let found = scan(run.alloc, version, &selectors, &kernel)?;
+        let found = scan(run.alloc, version, &selectors, run.kernel)?;
         run.sum.found(&found);
     }
     run.stop(start)
@@ -52,7 +51,6 @@ fn for_eight<R: Clock>(
 ) -> Result<(), Fault>
     requires { version.now.shape ≡ shape }
 {
-    let kernel = RowKernel::new(lane_parity);
     let selectors = [
         selector(run.alloc, shape, words, 0)?,
         selector(run.alloc, shape, words, 1)?,
@@ -65,8 +63,37 @@ fn for_eight<R: Clock>(
     ];
     let start = run.start()?;
     for _ in 0..run.turns {
-        let found = scan(run.alloc, version, &selectors, &kernel)?;
+        let found = scan(run.alloc, version, &selectors, run.kernel)?;
         run.sum.found(&found);
+    }
+    run.stop(start)
+}
+
+/// Whether an odd number of rows, laid end to end, have an odd number of ones in common with a selector of their length.
+fn odd_rows(kernel: &RowKernel, rows: &[u64], selector: &[u64]) -> bool {
+    let mut odd = false;
+    for row in rows.chunks_exact(selector.len().max(1)) {
+        if row.len() == selector.len() && row.len() <= 32 {
+            odd ^= kernel.parity(row, selector);
+        }
+    }
+    odd
+}
+
+/// The parities of a scan for eight selectors, by the kernel alone over rows in one block.
+pub fn parities<R: Clock>(run: &mut Run<R>) -> Result<(), Fault> {
+    let documents = if run.is_full() { 4096 } else { 130 };
+    let words = words_of(run.alloc, &text(run.alloc, false)?)?;
+    let row = selector(run.alloc, run.shape(), &words, 0)?;
+    let mut rows = Vec::new(run.alloc);
+    for _ in 0..documents {
+        rows.extend_from_slice(row.words())?;
+    }
+    let start = run.start()?;
+    for _ in 0..run.turns {
+        for _ in 0..8 {
+            run.sum.bit(odd_rows(run.kernel, &rows, row.words()));
+        }
     }
     run.stop(start)
 }

@@ -78,14 +78,16 @@ fn commit(alloc: Global, domains: &mut Domains, request: &Request, line: u16)
 }
 
 /// Two domains that have as many documents.
-fn filled<R: Clock>(run: &Run<R>, shape: Shape, word: &Word, lines: u16) -> Result<Domains, Fault> {
+fn filled<R: Clock>(run: &Run<R>, shape: Shape, word: &Word, lines: u16) -> Result<Domains, Fault>
+    requires { lines ≤ 4096 }
+{
     let keys = folder_keys();
     let mut columns = [0; 8];
     positions(&keys, shape, word, &mut columns);
     let keys = EpochKeys::new(&keys, 0);
     let mut domains = Domains {
-        lead: empty(run, Side::Lead)?,
-        follow: empty(run, Side::Follow)?,
+        lead: empty(run, Side::Lead, 64)?,
+        follow: empty(run, Side::Follow, 64)?,
     };
     for line in 0..lines {
         let frame = stage(run.alloc, &keys, shape, &columns, line)?;
@@ -180,13 +182,14 @@ fn found<L0: Link, L1: Link>(
     }
 }
 
-/// One search at a time.
-pub fn searches<R: Clock>(run: &mut Run<R>) -> Result<(), Fault> {
+/// One search of so many documents at a time.
+pub fn searches<R: Clock>(run: &mut Run<R>, lines: u16) -> Result<(), Fault>
+    requires { lines ≤ 4096 }
+{
     let Ok(word) = Word::read(b"alpha") else {
         return Err(Fault::Unexpected);
     };
     let shape = run.shape();
-    let lines = if run.is_full() { 4096 } else { 96 };
     let Domains { lead, follow } = filled(run, shape, &word, lines)?;
     let mut lead = DomainLink::new(run.alloc, lead, &[])?;
     let mut follow = DomainLink::new(run.alloc, follow, &[])?;

@@ -1,4 +1,4 @@
-//! Steps of a domain whose folder has 64 documents.
+//! Steps of a domain whose folder has 64 documents, or is full.
 ghost use Rattle.std.specs.Prelude.{◌≡◌, ◌≤◌, IfOk};
 ghost use Rattle.dory_wire.specs.Spelling.{IsRequest, IsWant};
 
@@ -8,26 +8,41 @@ use crate::fault::Fault;
 use crate::names::{FOLDER, ask, folder_keys, update};
 use crate::run::Run;
 use crate::searching::wanted;
+use crate::work::Filling;
 use dory_base::{DocId, Entry, FolderId, Side, UpdateId, Word};
-use dory_domain::{DomainCore, FolderConfig};
+use dory_domain::{DomainCore, FolderConfig, OpenFault};
 use dory_query::Query;
 use dory_wire::{Request, Want, What};
 use std::alloc::Global;
 use std::rt::Clock;
 
-/// The documents of the folder, and the members who stage at once.
+/// The members who stage at once, each a document of its own.
 const MANY: u32 = 64;
 
-/// A domain whose folder has no update, and rows as wide as those staged at this scale.
-pub fn empty<R: Clock>(run: &Run<R>, role: Side) -> Result<DomainCore, Fault> {
+/// How often each member has posted.
+pub fn rounds<R: Clock>(run: &Run<R>, filling: Filling) -> u32
+    ensures { result ≤ 64 }
+{
+    match filling {
+        Filling::Part => 1,
+        Filling::Whole => { if run.is_full() { 64 } else { 3 } }
+    }
+}
+
+/// A domain whose one folder has no update, rows as wide as those staged at this scale, and so many versions retained.
+pub fn empty<R: Clock>(run: &Run<R>, role: Side, retained: u32) -> Result<DomainCore, Fault>
+    requires some { 1 ≤ retained }
+    requires few { retained ≤ 256 }
+{
     let configs = [FolderConfig {
         folder: FolderId(FOLDER),
         shape: run.shape(),
-        retained: 64,
+        retained,
     }];
-    match DomainCore::new(run.alloc, role, &configs) {
+    match DomainCore::new(run.alloc, role, &configs, run.kernel.again()) {
         Ok(core) => Ok(core),
-        Err(_) => Err(Fault::NoMemory),
+        Err(OpenFault::BadConfig(_)) => unreachable!(),
+        Err(OpenFault::NoMemory) => Err(Fault::NoMemory),
     }
 }
 
@@ -61,21 +76,24 @@ fn renamed(request: Request, id: UpdateId, doc: DocId) -> Result<Request, Fault>
     }
 }
 
-/// Each member stages a post of a document of its own. The request is given back.
+/// Each member stages a post of a document of its own, and of another one in each of so many rounds, after which they come
+/// again. The request is given back.
 fn stage_all(
     alloc: Global,
     core: &mut DomainCore,
     request: Request,
     round: u32,
+    rounds: u32,
     sum: &mut Checksum,
 ) -> Result<Request, Fault>
     requires { IsRequest request }
     ensures { IfOk result IsRequest }
 {
     let mut request = request;
+    let first = round.checked_rem(rounds).unwrap_or(0).saturating_mul(MANY);
     for member in 0..MANY {
         let id = update(member, u64::from(round) + 1);
-        request = renamed(request, id, DocId(member))?;
+        request = renamed(request, id, DocId(first.saturating_add(member)))?;
         sum.answered(&core.step(alloc, &request).what);
     }
     Ok(request)
@@ -107,18 +125,41 @@ fn follow_all(
     Ok(())
 }
 
-/// A lead whose folder has 64 documents, each posted once.
-fn filled<R: Clock>(run: &mut Run<R>) -> Result<DomainCore, Fault> {
-    let mut core = empty(run, Side::Lead)?;
-    let request = staging(run)?;
-    stage_all(run.alloc, &mut core, request, 0, &mut run.sum)?;
-    order_all(run.alloc, &mut core, 0, &mut run.sum);
+/// Each member's update is ordered at a lead, or followed at a follower.
+fn commit_all(
+    alloc: Global,
+    core: &mut DomainCore,
+    role: Side,
+    round: u32,
+    sum: &mut Checksum,
+) -> Result<(), Fault> {
+    match role {
+        Side::Lead => {
+            order_all(alloc, core, round, sum);
+            Ok(())
+        }
+        Side::Follow => follow_all(alloc, core, round, sum),
+    }
+}
+
+/// A domain to whose folder each member has posted so often, each time another document.
+fn filled<R: Clock>(run: &mut Run<R>, role: Side, rounds: u32) -> Result<DomainCore, Fault>
+    requires { rounds ≤ 64 }
+{
+    let mut core = empty(run, role, 64)?;
+    for round in 0..rounds {
+        let request = staging(run)?;
+        stage_all(run.alloc, &mut core, request, round, rounds, &mut run.sum)?;
+        commit_all(run.alloc, &mut core, role, round, &mut run.sum)?;
+    }
     Ok(core)
 }
 
 /// One request for the length at a time.
-pub fn latest<R: Clock>(run: &mut Run<R>) -> Result<(), Fault> {
-    let mut core = filled(run)?;
+pub fn latest<R: Clock>(run: &mut Run<R>, rounds: u32) -> Result<(), Fault>
+    requires { rounds ≤ 64 }
+{
+    let mut core = filled(run, Side::Lead, rounds)?;
     let start = run.start()?;
     for _ in 0..run.turns {
         run.sum
@@ -128,11 +169,14 @@ pub fn latest<R: Clock>(run: &mut Run<R>) -> Result<(), Fault> {
 }
 
 /// One request for the id of an update at a time.
-pub fn which<R: Clock>(run: &mut Run<R>) -> Result<(), Fault> {
-    let mut core = filled(run)?;
+pub fn which<R: Clock>(run: &mut Run<R>, rounds: u32) -> Result<(), Fault>
+    requires { rounds ≤ 64 }
+{
+    let mut core = filled(run, Side::Lead, rounds)?;
+    let many = (rounds * MANY).max(1);
     let start = run.start()?;
     for turn in 0..run.turns {
-        let number = turn % MANY + 1;
+        let number = turn % many + 1;
         run.sum
             .answered(&answer(run.alloc, &mut core, Want::Which { number }));
     }
@@ -140,29 +184,42 @@ pub fn which<R: Clock>(run: &mut Run<R>) -> Result<(), Fault> {
 }
 
 /// One search of all documents at a time, by the lead's keys.
-pub fn search<R: Clock>(run: &mut Run<R>) -> Result<(), Fault> {
-    let mut core = filled(run)?;
+pub fn search<R: Clock>(run: &mut Run<R>, rounds: u32) -> Result<(), Fault>
+    requires { rounds ≤ 64 }
+{
+    let mut core = filled(run, Side::Lead, rounds)?;
     let Ok(word) = Word::read(b"alpha") else {
         return Err(Fault::Unexpected);
     };
+    let version = rounds * MANY;
     let (keys, shape) = (folder_keys(), run.shape());
-    let query = Query::make(run.alloc, &keys, shape, &word, MANY, [ask(0); 2], &[5; 32])?;
+    let query = Query::make(
+        run.alloc,
+        &keys,
+        shape,
+        &word,
+        version,
+        [ask(0); 2],
+        &[5; 32],
+    )?;
     let start = run.start()?;
     for _ in 0..run.turns {
-        let want = wanted(run.alloc, MANY, shape, &query.lead_keys)?;
+        let want = wanted(run.alloc, version, shape, &query.lead_keys)?;
         run.sum.answered(&answer(run.alloc, &mut core, want));
     }
     run.stop(start)
 }
 
 /// One staging by each member at a time. The orders between them aren't timed.
-pub fn stages<R: Clock>(run: &mut Run<R>) -> Result<(), Fault> {
-    let mut core = filled(run)?;
+pub fn stages<R: Clock>(run: &mut Run<R>, rounds: u32) -> Result<(), Fault>
+    requires { rounds ≤ 64 }
+{
+    let mut core = filled(run, Side::Lead, rounds)?;
     for turn in 0..run.turns {
         let request = staging(run)?;
-        let round = turn.saturating_add(1);
+        let round = turn.saturating_add(rounds);
         let start = run.start()?;
-        stage_all(run.alloc, &mut core, request, round, &mut run.sum)?;
+        stage_all(run.alloc, &mut core, request, round, rounds, &mut run.sum)?;
         run.stop(start)?;
         order_all(run.alloc, &mut core, round, &mut run.sum);
     }
@@ -170,26 +227,30 @@ pub fn stages<R: Clock>(run: &mut Run<R>) -> Result<(), Fault> {
 }
 
 /// One order for each member at a time. The stagings between them aren't timed.
-pub fn orders<R: Clock>(run: &mut Run<R>) -> Result<(), Fault> {
-    let mut core = empty(run, Side::Lead)?;
-    for turn in 0..run.turns {
-        let request = staging(run)?;
-        stage_all(run.alloc, &mut core, request, turn, &mut run.sum)?;
-        let start = run.start()?;
-        order_all(run.alloc, &mut core, turn, &mut run.sum);
-        run.stop(start)?;
-    }
-    Ok(())
+pub fn orders<R: Clock>(run: &mut Run<R>, rounds: u32) -> Result<(), Fault>
+    requires { rounds ≤ 64 }
+{
+    commits(run, Side::Lead, rounds)
 }
 
 /// One follow for each member at a time. The stagings between them aren't timed.
-pub fn follows<R: Clock>(run: &mut Run<R>) -> Result<(), Fault> {
-    let mut core = empty(run, Side::Follow)?;
+pub fn follows<R: Clock>(run: &mut Run<R>, rounds: u32) -> Result<(), Fault>
+    requires { rounds ≤ 64 }
+{
+    commits(run, Side::Follow, rounds)
+}
+
+/// One order or follow for each member at a time.
+fn commits<R: Clock>(run: &mut Run<R>, role: Side, rounds: u32) -> Result<(), Fault>
+    requires { rounds ≤ 64 }
+{
+    let mut core = filled(run, role, rounds)?;
     for turn in 0..run.turns {
         let request = staging(run)?;
-        stage_all(run.alloc, &mut core, request, turn, &mut run.sum)?;
+        let round = turn.saturating_add(rounds);
+        stage_all(run.alloc, &mut core, request, round, rounds, &mut run.sum)?;
         let start = run.start()?;
-        follow_all(run.alloc, &mut core, turn, &mut run.sum)?;
+        commit_all(run.alloc, &mut core, role, round, &mut run.sum)?;
         run.stop(start)?;
     }
     Ok(())

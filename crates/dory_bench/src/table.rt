@@ -1,6 +1,6 @@
 //! The table of the pieces of work. Those of a crate stand together, the lowest crate first.
 
-use crate::work::{Asked, Depth, Form, Message, Selectors, Work};
+use crate::work::{Asked, Depth, Filling, Form, Message, Selectors, Work};
 
 /// A row of the table.
 #[derive(Clone, Copy)]
@@ -21,7 +21,7 @@ pub struct Row {
 }
 
 /// All rows.
-pub const ROWS: [Row; 36] = [
+pub const ROWS: [Row; 43] = [
     Row {
         work: Work::Mac,
         name: "mac",
@@ -283,6 +283,16 @@ pub const ROWS: [Row; 36] = [
         rounds: 4,
     },
     Row {
+        work: Work::Parity,
+        name: "parity",
+        size: "2,048 columns",
+        units: 1,
+        unit: "rows",
+        operations: 32_768,
+        turns: 4,
+        rounds: 15,
+    },
+    Row {
         work: Work::Scan(Selectors::One),
         name: "scan-1",
         size: "4,096 documents",
@@ -313,7 +323,7 @@ pub const ROWS: [Row; 36] = [
         rounds: 15,
     },
     Row {
-        work: Work::Step(Asked::Latest),
+        work: Work::Step(Asked::Latest, Filling::Part),
         name: "step-latest",
         size: "64 documents",
         units: 1,
@@ -323,7 +333,7 @@ pub const ROWS: [Row; 36] = [
         rounds: 15,
     },
     Row {
-        work: Work::Step(Asked::Search),
+        work: Work::Step(Asked::Search, Filling::Part),
         name: "step-search",
         size: "64 documents",
         units: 1,
@@ -333,7 +343,7 @@ pub const ROWS: [Row; 36] = [
         rounds: 15,
     },
     Row {
-        work: Work::Step(Asked::Which),
+        work: Work::Step(Asked::Which, Filling::Part),
         name: "step-which",
         size: "64 documents",
         units: 1,
@@ -343,7 +353,7 @@ pub const ROWS: [Row; 36] = [
         rounds: 15,
     },
     Row {
-        work: Work::Step(Asked::Stage),
+        work: Work::Step(Asked::Stage, Filling::Part),
         name: "step-stage",
         size: "2,048 columns",
         units: 1,
@@ -353,7 +363,7 @@ pub const ROWS: [Row; 36] = [
         rounds: 15,
     },
     Row {
-        work: Work::Step(Asked::Order),
+        work: Work::Step(Asked::Order, Filling::Part),
         name: "step-order",
         size: "64 documents",
         units: 1,
@@ -363,7 +373,7 @@ pub const ROWS: [Row; 36] = [
         rounds: 15,
     },
     Row {
-        work: Work::Step(Asked::Follow),
+        work: Work::Step(Asked::Follow, Filling::Part),
         name: "step-follow",
         size: "64 documents",
         units: 1,
@@ -371,6 +381,66 @@ pub const ROWS: [Row; 36] = [
         operations: 64,
         turns: 6,
         rounds: 15,
+    },
+    Row {
+        work: Work::Step(Asked::Latest, Filling::Whole),
+        name: "step-latest-full",
+        size: "4,096 documents",
+        units: 1,
+        unit: "replies",
+        operations: 1,
+        turns: 10_000,
+        rounds: 4,
+    },
+    Row {
+        work: Work::Step(Asked::Search, Filling::Whole),
+        name: "step-search-full",
+        size: "4,096 documents",
+        units: 32_768,
+        unit: "rows",
+        operations: 1,
+        turns: 4,
+        rounds: 4,
+    },
+    Row {
+        work: Work::Step(Asked::Which, Filling::Whole),
+        name: "step-which-full",
+        size: "4,096 documents",
+        units: 1,
+        unit: "replies",
+        operations: 1,
+        turns: 10_000,
+        rounds: 4,
+    },
+    Row {
+        work: Work::Step(Asked::Stage, Filling::Whole),
+        name: "step-stage-full",
+        size: "4,096 documents",
+        units: 1,
+        unit: "rows",
+        operations: 64,
+        turns: 3,
+        rounds: 4,
+    },
+    Row {
+        work: Work::Step(Asked::Order, Filling::Whole),
+        name: "step-order-full",
+        size: "4,096 documents",
+        units: 1,
+        unit: "replies",
+        operations: 64,
+        turns: 1,
+        rounds: 4,
+    },
+    Row {
+        work: Work::Step(Asked::Follow, Filling::Whole),
+        name: "step-follow-full",
+        size: "4,096 documents",
+        units: 1,
+        unit: "replies",
+        operations: 64,
+        turns: 1,
+        rounds: 4,
     },
     Row {
         work: Work::Search,

@@ -39,6 +39,15 @@ pub enum Asked {
     Follow,
 }
 
+/// How many documents a domain's folder has.
+#[derive(Clone, Copy)]
+pub enum Filling {
+    /// 64.
+    Part,
+    /// 4,096 where time is taken, and 192 else.
+    Whole,
+}
+
 /// What is done over and over.
 #[derive(Clone, Copy)]
 pub enum Work {
@@ -60,9 +69,11 @@ pub enum Work {
     Decode(Message),
     /// An update on a version that shares its chunks.
     NextVersion,
+    /// Parities of rows and selectors, by a kernel alone.
+    Parity,
     Scan(Selectors),
     Verify,
-    Step(Asked),
+    Step(Asked, Filling),
     /// A search end to end.
     Search,
 }
