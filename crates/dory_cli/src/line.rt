@@ -3,7 +3,7 @@
 use dory_base::{DocId, FolderId, MemberId, Shape, Word};
 
 /// A command with its values.
-#[derive(Clone, Copy, Debug)]
+#[derive(Clone, Copy)]
 pub enum Line {
     /// Begin a member's state, whose next serial is `serial`.
     Init {

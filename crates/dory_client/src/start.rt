@@ -18,7 +18,7 @@ pub enum Todo {
 }
 
 /// What a line sets out to do.
-#[derive(Debug, Drop)]
+#[derive(Drop)]
 pub enum Start {
     /// To begin with this state.
     Init(KeptState),

@@ -8,7 +8,7 @@ ghost use Rattle.dory_hmac.specs.FolderKeys.{keys_of};
 use crate::keyed::KeyedMac;
 
 /// The keys that a folder's words, masks and tags are made with.
-#[derive(Clone, Copy, Debug)]
+#[derive(Clone, Copy)]
 pub struct FolderKeys {
     /// Chooses the positions of a word.
     pub word: [u8; 32],

@@ -52,7 +52,7 @@ pub enum Phase {
 
 /// A command as far as it has come: what is kept, the seed of its keys, the serial of its asks, the step of the next one
 /// and the phase.
-#[derive(Debug, Drop)]
+#[derive(Drop)]
 pub struct Run {
     pub kept: KeptState,
     pub seed: [u8; 32],

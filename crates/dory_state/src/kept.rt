@@ -14,7 +14,7 @@ pub struct Pending {
 }
 
 /// A member's state.
-#[derive(Debug, Drop)]
+#[derive(Drop)]
 pub struct KeptState {
     pub folder: FolderId,
     pub member: MemberId,
@@ -30,7 +30,7 @@ pub struct KeptState {
 }
 
 /// What both forms of a state begin with.
-#[derive(Debug, Drop)]
+#[derive(Drop)]
 pub struct Head {
     pub folder: FolderId,
     pub member: MemberId,
