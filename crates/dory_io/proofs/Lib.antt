@@ -1,2 +1,3 @@
 pub mod WriteLemmas
 mod Numerals
+pub mod Coming

@@ -1,5 +1,6 @@
 -- What a source, a sink and a keeper do to the bytes that they tell.
-use Rattle.std.specs.Prelude.{ℕ, ◌≡◌, ◌≤◌, ◌<◌, ⊤, ◌⊎◌, List, [], ◌++◌, Option, Some, None, Result, Ok, Err, take, drop}
+use Rattle.std.specs.Prelude.{ℕ, ◌≡◌, ◌≤◌, ◌<◌, ◌+◌, ◌-◌, ◌^◌, min, ⊤, ◌⊎◌, List, [], ◌++◌, length, Option, Some, None, Result, Ok, Err, take, drop}
+use Rattle.std.specs.Io.KnownBytes.{Consumes}
 use Rattle.dory_io.specs.declared.keeper.KeepError.{KeepError}
 use Rattle.dory_io.specs.declared.keeper.KeepError.TheVariants as keep
 
@@ -9,6 +10,17 @@ Reads None now room result into = ⊤
 Reads (Some before) None room result into = ⊥
 Reads (Some before) (Some now) room (Ok n) into = (take n before ≡ take n into) × (now ≡ drop n before) × ((n ≡ 0) → (room ≡ 0) ⊎ (before ≡ []))
 Reads (Some before) (Some now) room (Err e) into = now ≡ before
+
+-- these bytes came of a source: they are the first of what was left, where it tells that, and they are counted
+pub record Came (left now : Option (List ℕ)) (given counted : ℕ) (bytes : List ℕ) : Type 0 where
+  pub first : Consumes left now bytes
+  pub count : min (given + length bytes) (2 ^ 64 - 1) ≤ counted
+
+-- nothing is left of an input, where it told what was left
+abbrev pub IsOver : Option (List ℕ) → Option (List ℕ) → Type 0
+IsOver None now = ⊤
+IsOver (Some before) None = ⊥
+IsOver (Some before) (Some now) = now ≡ []
 
 -- a write takes some of the piece
 abbrev pub Takes : {E : Type 0} → ℕ → Result ℕ E → Type 0

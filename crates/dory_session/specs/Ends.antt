@@ -5,15 +5,10 @@ use Rattle.dory_wire.specs.declared.fault.WireFault.TheVariants as wire
 use Rattle.dory_wire.specs.Cut.{front_of}
 use Rattle.dory_wire.specs.Reading.{request_of}
 use Rattle.dory_domain.specs.Held.{Held}
+use Rattle.dory_io.specs.Bytes.{IsOver}
 use Rattle.dory_session.specs.declared.end.How.{How}
 use Rattle.dory_session.specs.declared.end.How.TheVariants.{Ended, Cut, Length, Kind, Body, Trailing, InputFault, OutputFault, Limit, NoMemory}
 use Rattle.dory_session.specs.Answered.{IsAnswered}
-
--- nothing is left of an input, where it told what was left
-abbrev pub IsOver : Option (List ℕ) → Option (List ℕ) → Type 0
-IsOver None now = ⊤
-IsOver (Some before) None = ⊥
-IsOver (Some before) (Some now) = now ≡ []
 
 -- why no message comes next, where `rest` came of it, and of the input `before` was left and `left` is
 abbrev pub Stops : How → List ℕ → Option (List ℕ) → Option (List ℕ) → Type 0

@@ -1,23 +1,19 @@
 -- One session, from its input to its output.
-use Rattle.std.specs.Prelude.{ℕ, ◌≡◌, ◌≤◌, ◌<◌, ◌+◌, ◌-◌, ◌^◌, min, ⊤, List, ◌++◌, length, take, Option, Some, Vec, Result, Ok, Err}
+use Rattle.std.specs.Prelude.{ℕ, ◌≡◌, ◌≤◌, ◌<◌, ⊤, List, ◌++◌, length, take, Option, Some, Vec, Result, Ok, Err}
 use Rattle.std.specs.List.{AllByRecursion, concat}
-use Rattle.std.specs.Io.KnownBytes.{Appends, Consumes}
+use Rattle.std.specs.Io.KnownBytes.{Appends}
 use Rattle.std.specs.declared.alloc.Global.{Global}
 use Rattle.dory_wire.specs.declared.message.Request.{Request}
 use Rattle.dory_wire.specs.Frame.{frame_of}
 use Rattle.dory_wire.specs.Cut.{IsMessage, frames_of, cut_of}
 use Rattle.dory_wire.specs.Reading.{request_of}
 use Rattle.dory_domain.specs.Held.{Held}
+use Rattle.dory_io.specs.Bytes.{Came}
 use Rattle.dory_session.specs.declared.end.How.{How}
 use Rattle.dory_session.specs.declared.end.How.TheVariants.{Ended, Cut, Length, Kind, Body, Trailing, InputFault, OutputFault, Limit, NoMemory}
 use Rattle.dory_session.specs.declared.end.SessionEnd.{SessionEnd}
 use Rattle.dory_session.specs.Answered.{AreAnswered}
 use Rattle.dory_session.specs.Ends.{Stops, IsEnd}
-
--- these bytes came of a source: they are the first of what was left, where it tells that, and they are counted
-pub record Came (left now : Option (List ℕ)) (given counted : ℕ) (bytes : List ℕ) : Type 0 where
-  pub first : Consumes left now bytes
-  pub count : min (given + length bytes) (2 ^ 64 - 1) ≤ counted
 
 -- the bytes held, which grew by those that came, are the frame of a message and what is held now, or no message comes
 abbrev pub IsNext : List ℕ → List ℕ → List ℕ → Option (List ℕ) → Option (List ℕ) → Result (Vec ℕ Global) How → Type 0

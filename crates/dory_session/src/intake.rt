@@ -2,8 +2,9 @@
 ghost use Rattle.std.specs.Prelude.{◌≡◌, ◌≢◌, ◌≤◌, List, ℕ, length, IsErrOf, Option, Ok, None};
 ghost use Rattle.dory_wire.specs.Cut.{front_of};
 ghost use Rattle.dory_io.specs.Causes.{HasCause};
-ghost use Rattle.dory_session.specs.Ends.{IsOver, Stops};
-ghost use Rattle.dory_session.specs.Session.{Came, IsNext, IsMore};
+ghost use Rattle.dory_io.specs.Bytes.{Came, IsOver};
+ghost use Rattle.dory_session.specs.Ends.{Stops};
+ghost use Rattle.dory_session.specs.Session.{IsNext, IsMore};
 
 use crate::end::How;
 use dory_io::Source;

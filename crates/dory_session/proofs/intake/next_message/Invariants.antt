@@ -1,5 +1,5 @@
 use Rattle.std.proofs.Common.{◌≡◌, ◌≤◌, List, ℕ, length, ◌-◌, ◌++◌}
-use Rattle.dory_session.specs.Session.{Came}
+use Rattle.dory_io.specs.Bytes.{Came}
 use Rattle.dory_session.proofs.intake.next_message.Given as goal
 
 -- what came since the call began is held after what was held then

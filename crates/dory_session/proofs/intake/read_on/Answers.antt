@@ -1,4 +1,4 @@
-use Rattle.dory_session.proofs.Coming.{read_came}
+use Rattle.dory_io.proofs.Coming.{read_came}
 use Rattle.dory_session.proofs.intake.read_on.Goals as goal
 
 pub returns-in-Err-feed-clause-more : goal.returns-in-Err-feed-clause-more
