@@ -1,5 +1,4 @@
 pub mod Walks
-pub mod Numerals
 pub mod Levels
 pub mod InitReads
 pub mod Places

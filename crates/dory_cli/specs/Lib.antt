@@ -1,6 +1,5 @@
 pub mod Words
 pub mod Barred
-pub mod Numbers
 pub mod Texts
 pub mod Commands
 pub mod Values

@@ -4,7 +4,7 @@ use Rattle.hex.specs.Hex.{decode_sized}
 use Rattle.hex.specs.declared.error.FromHexError.{FromHexError}
 use Rattle.dory_base.specs.Words.{read_word}
 use Rattle.dory_base.specs.declared.word.WordFault.{WordFault}
-use Rattle.dory_cli.specs.Numbers.{number_of}
+use Rattle.dory_io.specs.Numbers.{number_of}
 use Rattle.dory_cli.specs.Commands.{Texts}
 use Rattle.dory_cli.specs.Words.{Text}
 use Rattle.dory_cli.specs.declared.fault.NumberField.{NumberField}

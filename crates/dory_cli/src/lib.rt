@@ -5,7 +5,6 @@ mod checked;
 mod fault;
 mod init;
 mod line;
-mod number;
 mod reading;
 mod values;
 mod word;

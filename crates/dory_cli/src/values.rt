@@ -9,8 +9,8 @@ ghost use Rattle.dory_cli.specs.Line.{IsLine};
 use crate::fault::{NumberField, UsageFault};
 use crate::init::InitTexts;
 use crate::line::Line;
-use crate::number::number;
 use dory_base::{FolderId, MemberId, Shape, Word};
+use dory_io::number;
 use hex::FromHex;
 
 /// The number that a text writes, or that this number is wrong.
