@@ -1,4 +1,7 @@
-//! The adapters over the loopback of this machine, and over streams in memory.
+//! The adapters over the loopback of this machine, and over streams in memory; and words as a shell hands them over.
+
+mod shell;
+
 use crate::{StdSink, StdSource, TcpBinder, TcpLink, TcpPort};
 use dory_io::{Address, Binder, Failed, Port, Sink, Source, write_all};
 use dory_link::{Link, LinkError};

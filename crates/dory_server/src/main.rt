@@ -11,13 +11,12 @@ use crate::end::ServerEnd;
 use crate::opening::serve_in_turn;
 use dory_io::write_all;
 use dory_kernel::{RowKernel, lane_parity};
-use dory_net::{StdSink, TcpBinder};
+use dory_net::{StdSink, TcpBinder, typed_words};
 use std::io::Write;
 use std::net::{Net, TcpListener, TcpStream};
 use std::process::ExitCode;
 use std::rt::Env;
 use std::sync::Wait;
-use std::{env, io};
 
 /// What `--help` writes.
 const HELP: &str = "dory_server: one of the two domains of a shared folder's search
@@ -40,15 +39,6 @@ after another. It keeps everything in memory.
 
 /// What `--version` writes.
 const VERSION: &str = "dory_server 0.1.0\n";
-
-/// The words after the program's name.
-fn typed_words<R: Env + AllocGlobal>(rt: &R) -> io::Result<Vec<String>> {
-    let mut words = Vec::new(rt.alloc());
-    for word in env::args(rt)?.skip(1) {
-        words.push(word)?;
-    }
-    Ok(words)
-}
 
 /// The text that a lone `--help` or `--version` asks for.
 fn asked_text(words: &[String]) -> Option<&'static str> {
