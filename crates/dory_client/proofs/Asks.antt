@@ -1,5 +1,5 @@
 -- What an ask over a link says, where it was answered and where it wasn't.
-use Rattle.std.proofs.Common.{◌≡◌, ℕ, ◌<◌, List, [], ◌∷◌, ◌++◌, take, map, Option, Some, None, Result, Ok, Err, inl, inr, ap, sym, ◌∙◌, refl, get_or}
+use Rattle.std.proofs.Common.{◌≡◌, ℕ, ◌<◌, List, [], ◌∷◌, ◌++◌, take, Option, Some, None, Ok, Err, inl, inr, ap, sym, ◌∙◌, refl, get_or}
 use Rattle.std.proofs.lemmas.List.{append-nil}
 use Rattle.dory_wire.specs.declared.message.Request.{Request}
 use Rattle.dory_wire.specs.Reading.{request_in}

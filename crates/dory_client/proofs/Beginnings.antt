@@ -1,6 +1,6 @@
 -- How a command may begin: with an update, with a search, with the two lengths, or at its end.
 use Rattle.std.specs.Prelude.{◌&&◌, if◌then◌else◌}
-use Rattle.std.proofs.Common.{◌≡◌, ℕ, Bool, true, false, List, Option, None, Some, Result, Ok, Err, refl, ap, sym, ◌∙◌, subst}
+use Rattle.std.proofs.Common.{◌≡◌, ℕ, Bool, true, false, List, Option, None, Some, Result, Ok, refl, subst}
 use Rattle.dory_base.specs.declared.entry.Entry.{Entry}
 use Rattle.dory_state.specs.declared.kept.KeptState.{KeptState}
 use Rattle.dory_state.specs.declared.kept.Pending.{Pending}
@@ -13,19 +13,20 @@ use Rattle.dory_member.specs.declared.phase.Phase.TheVariants.{Updating, Measuri
 use Rattle.dory_member.specs.declared.phase.Run.{Run}
 use Rattle.dory_member.specs.declared.phase.UpdateStep.TheVariants.{StageFollow}
 use Rattle.dory_member.specs.Course.{asking, begun, if_finished, if_serial, posting, refused_if, removing, resumed}
+use Rattle.dory_client.specs.Goes.{IsGood}
 use Rattle.dory_member.specs.Draw.{is_last_epoch, is_last_serial, is_used_up, ready, turned}
 
-pub data Kind (k : KeptState) (seed : List ℕ) (run : Run) : Type 0 where
-  Updates : (e : Entry) → run.phase ≡ Updating e StageFollow → Kind k seed run
-  Searches : (word : List ℕ) → run ≡ asking k seed k.used (Measuring (Some word) None) → Kind k seed run
-  Measures : run ≡ asking k seed k.used (Measuring None None) → Kind k seed run
-  Rests : (o : Outcome) → run.phase ≡ Ended o → Kind k seed run
+pub data Kind (k : KeptState) (seed : List ℕ) (c : Command) (run : Run) : Type 0 where
+  Updates : (e : Entry) → run.phase ≡ Updating e StageFollow → Kind k seed c run
+  Searches : (word : List ℕ) → c ≡ command.Search word → run ≡ asking k seed k.used (Measuring (Some word) None) → Kind k seed c run
+  Measures : c ≡ command.Latest → run ≡ asking k seed k.used (Measuring None None) → Kind k seed c run
+  Rests : (o : Outcome) → IsGood o → run.phase ≡ Ended o → Kind k seed c run
 
 -- a run that begins in a state: what was seen there, its folder, and its kind
-pub record IsBeginning (k : KeptState) (seed : List ℕ) (run : Run) : Type 0 where
+pub record IsBeginning (k : KeptState) (seed : List ℕ) (c : Command) (run : Run) : Type 0 where
   pub seen : run.kept.seen ≡ k.seen
   pub folder : run.kept.folder ≡ k.folder
-  pub kind : Kind k seed run
+  pub kind : Kind k seed c run
 
 abbrev ok_run : Run → Result Run Fault
 ok_run run = Ok run
@@ -45,26 +46,26 @@ ready_seen k b e = by (is_used_up k)
     by true = (refl, refl)
     by false = (refl, refl)
 
-begins_as : (k : KeptState) (seed : List ℕ) (r run : Run) → ok_run r ≡ ok_run run → IsBeginning k seed r → IsBeginning k seed run
-begins_as k seed r run e b = let same : r ≡ run = cc in subst (IsBeginning k seed) same b
+begins_as : (k : KeptState) (seed : List ℕ) (c : Command) (r run : Run) → ok_run r ≡ ok_run run → IsBeginning k seed c r → IsBeginning k seed c run
+begins_as k seed c r run e b = let same : r ≡ run = cc in subst (IsBeginning k seed c) same b
 
-taken_up : (k : KeptState) (seed : List ℕ) (p : Option Pending) (run : Run) → resumed k seed p ≡ ok_run run → IsBeginning k seed run
-taken_up k seed None run e = begins_as k seed _ run e (record { seen = refl; folder = refl; kind = Rests _ refl })
-taken_up k seed (Some p) run e = begins_as k seed _ run (ok_if _ _ _ run e) (record { seen = refl; folder = refl; kind = Updates _ refl })
+taken_up : (k : KeptState) (seed : List ℕ) (p : Option Pending) (run : Run) → resumed k seed p ≡ ok_run run → IsBeginning k seed command.Resume run
+taken_up k seed None run e = begins_as k seed command.Resume _ run e (record { seen = refl; folder = refl; kind = Rests _ tt refl })
+taken_up k seed (Some p) run e = begins_as k seed command.Resume _ run (ok_if _ _ _ run e) (record { seen = refl; folder = refl; kind = Updates _ refl })
 
-pub beginning : (k : KeptState) (seed : List ℕ) (c : Command) (run : Run) → begun k seed c ≡ Ok run → IsBeginning k seed run
+pub beginning : (k : KeptState) (seed : List ℕ) (c : Command) (run : Run) → begun k seed c ≡ Ok run → IsBeginning k seed c run
 beginning k seed (command.Post doc row) run e =
     let r = ready_seen k (is_used_up k) refl in
     let made : Result Run Fault = Ok (posting (ready k) seed doc row) in
     let unless_spent : Result Run Fault = refused_if (is_used_up k && is_last_epoch k) fault.EpochEnd made in
     let free = finished k k.pending (if_serial k unless_spent) run e in
     let serial = ok_if (is_last_serial k) fault.SerialEnd unless_spent run free in
-    begins_as k seed (posting (ready k) seed doc row) run (ok_if (is_used_up k && is_last_epoch k) fault.EpochEnd made run serial) (record { seen = r.0; folder = r.1; kind = Updates _ refl })
-beginning k seed (command.Remove doc) run e = begins_as k seed (removing k seed doc) run (ok_if _ _ _ run (finished k k.pending _ run e)) (record { seen = refl; folder = refl; kind = Updates _ refl })
-beginning k seed (command.Search word) run e = begins_as k seed _ run (ok_if _ _ _ run e) (record { seen = refl; folder = refl; kind = Searches word refl })
+    begins_as k seed (command.Post doc row) (posting (ready k) seed doc row) run (ok_if (is_used_up k && is_last_epoch k) fault.EpochEnd made run serial) (record { seen = r.0; folder = r.1; kind = Updates _ refl })
+beginning k seed (command.Remove doc) run e = begins_as k seed (command.Remove doc) (removing k seed doc) run (ok_if _ _ _ run (finished k k.pending _ run e)) (record { seen = refl; folder = refl; kind = Updates _ refl })
+beginning k seed (command.Search word) run e = begins_as k seed (command.Search word) _ run (ok_if _ _ _ run e) (record { seen = refl; folder = refl; kind = Searches word refl refl })
 beginning k seed command.Resume run e = taken_up k seed k.pending run e
-beginning k seed command.Latest run e = begins_as k seed _ run (ok_if _ _ _ run e) (record { seen = refl; folder = refl; kind = Measures refl })
-beginning k seed command.Rotate run e = begins_as k seed _ run (ok_if _ _ _ run e) (record { seen = refl; folder = refl; kind = Rests _ refl })
+beginning k seed command.Latest run e = begins_as k seed command.Latest _ run (ok_if _ _ _ run e) (record { seen = refl; folder = refl; kind = Measures refl refl })
+beginning k seed command.Rotate run e = begins_as k seed command.Rotate _ run (ok_if _ _ _ run e) (record { seen = refl; folder = refl; kind = Rests _ tt refl })
 
 -- the run of a search
 pub search_begins : (k : KeptState) (seed word : List ℕ) (run : Run) → begun k seed (command.Search word) ≡ Ok run → run ≡ asking k seed k.used (Measuring (Some word) None)

@@ -1,11 +1,9 @@
 -- How a call is made of its parts.
-use Rattle.std.proofs.Common.{◌≡◌, ℕ, Bool, true, false, List, Option, None, Some, Result, Ok, Err, refl, ap, sym, ◌∙◌, subst, inl, inr}
-use Rattle.std.specs.Prelude.{◌⊎◌}
+use Rattle.std.proofs.Common.{◌≡◌, ℕ, Bool, true, false, List, Option, None, Some, Result, Ok, Err, ap, sym, ◌∙◌, subst, inl, inr}
 use Rattle.dory_io.specs.Bytes.{Stays, Tells}
 use Rattle.dory_link.specs.Told.{Heard}
 use Rattle.dory_cli.specs.declared.line.Line.{Line}
 use Rattle.dory_cli.specs.declared.fault.UsageFault.{UsageFault}
-use Rattle.dory_state.specs.Reading.{state_of}
 use Rattle.dory_state.specs.Spelling.{IsKeptState}
 use Rattle.dory_state.specs.declared.kept.KeptState.{KeptState}
 use Rattle.dory_state.specs.declared.fault.StateFault.{StateFault}
@@ -19,11 +17,11 @@ use Rattle.dory_client.specs.declared.end.ClientEnd.{ClientEnd}
 use Rattle.dory_client.specs.Command.{HasCommand, NoCommand}
 use Rattle.dory_client.specs.Goes.{Goes, Unsaved, Broken, RanOut, Fell, Unkept, Came, GoesFrom, IsBegun, NotBegun}
 use Rattle.dory_client.specs.Goes as goes
-use Rattle.dory_client.specs.Kept.{KeepsIf, KeepsNow, KeepsOf, OldOrNew}
+use Rattle.dory_client.specs.Kept.{KeepsIf, KeepsNow, OldOrNew}
 use Rattle.dory_client.specs.Run.{Acts, NotMade, Refused, NoRoom, Began, ActsIn, MayAct, Begins, Loads, Runs}
 use Rattle.dory_client.specs.Run as run
 use Rattle.dory_client.specs.Scene.{Input, IsUntouched, Scene, scene}
-use Rattle.dory_client.specs.Start.{command_of, start_of}
+use Rattle.dory_client.specs.Start.{start_of}
 use Rattle.dory_client.proofs.Finish.{stays_twice, untouched}
 
 abbrev Told : Type 0

@@ -1,5 +1,5 @@
 -- Why there is no command.
-use Rattle.std.proofs.Common.{◌≡◌, ℕ, Bool, List, [], Result, Ok, Err, refl, inl, inr}
+use Rattle.std.proofs.Common.{◌≡◌, ℕ, Bool, List, [], Err, refl, inl, inr}
 use Rattle.dory_bloom.specs.PlainRow.{plain_row_of}
 use Rattle.dory_words.specs.WordsIn.{words_in}
 use Rattle.dory_base.specs.declared.ids.DocId.{DocId}

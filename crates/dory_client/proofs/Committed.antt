@@ -1,11 +1,11 @@
 -- What a told domain has after it confirmed an update.
-use Rattle.std.proofs.Common.{◌≡◌, ℕ, zero, suc, ◌+◌, ◌-◌, ◌≤◌, ◌<◌, Bool, true, false, cond, List, [], ◌∷◌, ◌++◌, length, map, Option, None, Some, Result, Ok, Err, refl, ap, sym, ◌∙◌, subst, inl, inr, arith}
-use Rattle.std.specs.Prelude.{◌⊎◌, slice_get, nat_lt}
+use Rattle.std.proofs.Common.{◌≡◌, ℕ, zero, suc, ◌+◌, ◌-◌, ◌≤◌, ◌<◌, Bool, true, false, cond, List, [], ◌∷◌, ◌++◌, length, Option, None, Some, Result, Ok, Err, refl, ap, sym, ◌∙◌, subst, inl, inr, arith}
+use Rattle.std.specs.Prelude.{slice_get, nat_lt}
 use Rattle.dory_base.specs.Log.{Log, same_id, number_of, staged_as, order_staged, order_known, order_as, look_order, follow_staged, follow_known, follow_again, follow_as, look_follow}
 use Rattle.dory_base.specs.declared.ids.AskId.{AskId}
 use Rattle.dory_base.specs.declared.ids.Side.{Side}
 use Rattle.dory_base.specs.declared.ids.Side.TheVariants as side
-use Rattle.dory_base.specs.declared.refusal.Refusal.TheVariants.{Gap, HistoryFull, NoFolder, NoMemory, Taken}
+use Rattle.dory_base.specs.declared.refusal.Refusal.TheVariants.{Gap, HistoryFull, NoMemory, Taken}
 use Rattle.dory_wire.specs.declared.message.Want.{Want}
 use Rattle.dory_wire.specs.declared.message.Want.TheVariants.{Latest, Search, Which, Stage, Order, Follow}
 use Rattle.dory_wire.specs.declared.message.What.{What}
@@ -44,10 +44,6 @@ get_last (y ∷ xs) x = get_last xs x
 ids_more : (xs ys : List Entry) → ids_of (xs ++ ys) ≡ ids_of xs ++ ids_of ys
 ids_more [] ys = refl
 ids_more (x ∷ xs) ys = ap (λ (v : List UpdateId). x.id ∷ v) (ids_more xs ys)
-
-ids_length : (xs : List Entry) → length (ids_of xs) ≡ length xs
-ids_length [] = refl
-ids_length (x ∷ xs) = ap suc (ids_length xs)
 
 -- an update stays at its number
 pub has_more : (a b : List Entry) (number : ℕ) (id : UpdateId) → IsPrefix a b → HasAt a number id → HasAt b number id
@@ -133,7 +129,7 @@ follow_if false log number m id some t e =
     let within : number - 1 < length log.ids = omega (arith, few, some) in
     follow_here (slice_get log.ids (number - 1)) number m id (get_there log.ids (number - 1) within) e
 
-follower : (role : Side) (log : Log) (number m : ℕ) (id : UpdateId) → 1 ≤ number → follow_as role log number id ≡ Ok (Again m) → (slice_get log.ids (number - 1) ≡ Some id) × (number ≡ m)
+pub follower : (role : Side) (log : Log) (number m : ℕ) (id : UpdateId) → 1 ≤ number → follow_as role log number id ≡ Ok (Again m) → (slice_get log.ids (number - 1) ≡ Some id) × (number ≡ m)
 follower side.Lead log number m id some e = absurd (cc)
 follower side.Follow log number m id some e = follow_if (nat_lt (length log.ids) number) log number m id some refl e
 

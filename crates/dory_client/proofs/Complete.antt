@@ -1,10 +1,9 @@
 -- Over two links that tell the folder, with histories that agree, a failed check is a refusal.
-use Rattle.std.proofs.Common.{◌≡◌, ℕ, ◌≤◌, ◌^◌, ◌&&◌, Bool, true, false, cond, List, [], ◌∷◌, zero, suc, length, map, Option, Some, None, Result, Ok, Err, ap, refl, inl, inr, sym, ◌∙◌, subst, arith}
+use Rattle.std.proofs.Common.{◌≡◌, ℕ, ◌≤◌, ◌&&◌, Bool, true, false, cond, List, [], ◌∷◌, zero, suc, length, map, Some, Result, Ok, Err, ap, refl, inl, inr, sym, ◌∙◌, subst, arith}
 use Rattle.std.specs.Prelude.{nat_le, nat_lt, ⊤}
 use Rattle.dory_base.specs.Dims.{Dims, same_shape}
 use Rattle.dory_base.specs.declared.entry.Entry.{Entry}
 use Rattle.dory_base.specs.declared.found.Found.{Found}
-use Rattle.dory_base.specs.declared.ids.AskId.{AskId}
 use Rattle.dory_base.specs.declared.ids.Side.TheVariants.{Lead, Follow}
 use Rattle.dory_base.specs.declared.refusal.Refusal.{Refusal}
 use Rattle.dory_base.specs.declared.refusal.Refusal.TheVariants.{ShapeWrong, Unretained, NoMemory}
@@ -15,21 +14,18 @@ use Rattle.dory_wire.specs.declared.message.Want.TheVariants.{Latest}
 use Rattle.std.proofs.lemmas.Bool.Decides.{nat_tests}
 use Rattle.dory_wire.specs.Reading.{reply_in}
 use Rattle.dory_wire.specs.Read.{search_of, IsReadAs, oldest_of, found_of}
-use Rattle.dory_wire.proofs.Fields.{IsBytes}
 use Rattle.dory_link.specs.Told.{Told, Heard}
 use Rattle.dory_verify.specs.declared.fault.CheckFault.{CheckFault}
 use Rattle.dory_verify.specs.declared.fault.CheckFault.TheVariants as fault
 use Rattle.dory_verify.specs.Checks.{first_fault_of}
 use Rattle.dory_state.specs.declared.kept.KeptState.{KeptState}
-use Rattle.dory_state.specs.Reading.{state_of}
 use Rattle.dory_state.specs.declared.fault.StateFault.{StateFault}
 use Rattle.dory_member.specs.Course.{folder_keys, lesser}
-use Rattle.dory_client.specs.Sought.{Sought, ask_of, asked_of, columns_of, searching, sought_of}
+use Rattle.dory_client.specs.Sought.{ask_of, asked_of, columns_of, searching, sought_of}
 use Rattle.dory_state.specs.Spelling.{IsKeptState}
-use Rattle.dory_io.specs.Bytes.{Tells}
 use Rattle.dory_client.specs.Asked.{Ask}
 use Rattle.dory_client.proofs.Course.{Lengths, Failed}
-use Rattle.dory_client.specs.Complete.{KeepsState, TellsFolder, TellsSeen, Agree, TellAlike, IsRefusal}
+use Rattle.dory_client.specs.Complete.{TellsFolder, TellsSeen, Agree, IsRefusal}
 use Rattle.dory_client.proofs.Replied.{longer, same_version, grown_told, replied_by}
 use Rattle.dory_verify.specs.Honest.{found_by, reply}
 use Rattle.dory_verify.proofs.Passing.{lengths_pass, lead_refused, follow_refused, both_honest}
@@ -59,7 +55,7 @@ length_told lead lead' state step frame x y told told' seen ask =
     )
 
 -- the first pair fails no check, and its lengths aren't older than what was seen
-lengths_told : (lead lead' follow follow' : Heard) (state : KeptState) (gave : Result (ℕ × ℕ) CheckFault) (x y x' y' : Told) → TellsFolder lead.folders state.folder.0 x → TellsFolder lead'.folders state.folder.0 y → TellsFolder follow.folders state.folder.0 x' → TellsFolder follow'.folders state.folder.0 y'
+pub lengths_told : (lead lead' follow follow' : Heard) (state : KeptState) (gave : Result (ℕ × ℕ) CheckFault) (x y x' y' : Told) → TellsFolder lead.folders state.folder.0 x → TellsFolder lead'.folders state.folder.0 y → TellsFolder follow.folders state.folder.0 x' → TellsFolder follow'.folders state.folder.0 y'
     → state.seen ≤ length x.history → state.seen ≤ length x'.history → Lengths lead lead' follow follow' state gave → (n : ℕ × ℕ) × (gave ≡ Ok n) × (state.seen ≤ n.0) × (state.seen ≤ n.1)
 lengths_told lead lead' follow follow' state gave x y x' y' t u t' u' l l' p =
     let a = length_told lead lead' state 0 p.from_lead x y t u l p.asked_lead in
@@ -209,11 +205,3 @@ failed_refused lead lead' follow follow' state seed word f a b kept agree sealed
       fresh = fresh_version state.seen version s.lengths n.0 s.smaller n.1 n.2 n.3;
       faulty = s.second.checked;
     })
-
-pub same_state : (kept : Option (Option (List ℕ))) (bytes : List ℕ) (s t : KeptState) → KeepsState kept s → Tells kept (Some bytes) → state_of bytes ≡ Ok t → t ≡ s
-same_state None bytes s t keeps told is = absurd keeps
-same_state (Some None) bytes s t keeps told is = absurd keeps
-same_state (Some (Some kept)) bytes s t keeps told is =
-    let same : kept ≡ bytes = cc in
-    let one : ok_state t ≡ ok_state s = sym is ∙ ap state_of (sym same) ∙ keeps in
-    cc

@@ -1,7 +1,7 @@
 -- What a command that is done did.
 use Rattle.std.proofs.Common.{◌≡◌, ℕ, ◌-◌, ◌≤◌, ◌<◌, Bool, true, false, List, [], ◌∷◌, ◌++◌, zero, suc, length, length-append, Option, None, Some, Result, Ok, Err, refl, ap, sym, ◌∙◌, subst, arith, inl, inr}
 use Rattle.std.specs.Prelude.{⊤, nat_lt, slice_get, if◌then◌else◌}
-use Rattle.std.proofs.lemmas.Bool.{ltb-false, ltb-true}
+use Rattle.std.proofs.lemmas.Bool.{ltb-true}
 use Rattle.std.specs.Io.KnownBytes.{Appends}
 use Rattle.dory_base.specs.Step.{ids_of}
 use Rattle.dory_base.specs.declared.entry.Entry.{Entry}
@@ -11,6 +11,7 @@ use Rattle.dory_link.specs.Told.{Told, Grown, Grows}
 use Rattle.dory_verify.specs.declared.answer.Answer.{Answer}
 use Rattle.dory_verify.specs.declared.fault.CheckFault.{CheckFault}
 use Rattle.dory_verify.specs.Checks.{lengths_of}
+use Rattle.dory_member.specs.declared.command.Command.{Command}
 use Rattle.dory_member.specs.declared.command.Command.TheVariants as command
 use Rattle.dory_member.specs.declared.outcome.Fault.TheVariants as fault
 use Rattle.dory_cli.specs.Line.{line_of as read_of}
@@ -25,20 +26,19 @@ use Rattle.dory_member.specs.declared.phase.Phase.TheVariants.{Updating, Measuri
 use Rattle.dory_member.specs.declared.phase.Run.{Run}
 use Rattle.dory_member.specs.declared.phase.UpdateStep.TheVariants.{StageFollow}
 use Rattle.dory_member.specs.Course.{after_lengths, asking, asks, ended_of, finished, greater, kept_at, moved, name, outcome_at, run_after, took, updated}
-use Rattle.dory_client.specs.declared.start.Todo.{Todo}
 use Rattle.dory_client.specs.declared.start.Todo.TheVariants.{Plain}
 use Rattle.dory_client.specs.declared.start.Start.{Start}
 use Rattle.dory_client.specs.declared.start.Start.TheVariants.{Init, Act}
 use Rattle.dory_client.specs.declared.end.ClientEnd.TheVariants as ends
-use Rattle.dory_client.specs.Confirmed.{HasAt, ToldAt, IsConfirmed, Confirms, SeenOf, SeenBy, IsDone, DoesStart, DoesLine, Does}
-use Rattle.dory_client.specs.Goes.{IsGood, line_of}
+use Rattle.dory_client.specs.Confirmed.{ToldAt, Confirms, SeenOf, SeenBy, IsDone, DoesStart, DoesLine, Does}
+use Rattle.dory_client.specs.Goes.{IsGood, line_of, scene_links}
 use Rattle.dory_client.specs.Run.{IsRun, Loads, Runs}
 use Rattle.dory_client.specs.Scene.{Input, Scene}
 use Rattle.dory_client.specs.Headline.{Accepts, IsAccepted, IsRight, IsRightBy, IsRightOf, Part}
 use Rattle.dory_client.specs.Sought.{sought_of}
 use Rattle.dory_client.specs.Start.{command_of, start_of}
-use Rattle.dory_client.specs.Way.{Links, Went, Turned, links}
-use Rattle.dory_client.proofs.Done.{CameWell, DidWell, did}
+use Rattle.dory_client.specs.Way.{Links, Went, Turned}
+use Rattle.dory_client.proofs.Done.{CameWell, did}
 use Rattle.dory_client.proofs.Beginnings.{IsBeginning, Kind, Updates, Searches, Measures, Rests, beginning, search_begins}
 use Rattle.dory_client.proofs.Course.{Answered}
 use Rattle.dory_client.proofs.Right.{answered_fresh, right_follow, right_lead}
@@ -62,13 +62,13 @@ kept_from r k (g ∷ frames) m z o (Searching q lead) is i (n, turned, more) end
 kept_from r k (g ∷ frames) m z o (Ended x) is i (n, turned, more) ends = absurd (subst (λ (p : Phase). Turned r (asks p) m n g) is turned)
 
 -- a run that isn't at its end when it begins keeps what its outcome comes to
-kept_last : (run : Run) (frames : List (List ℕ)) (a z : Links) (o : Outcome) → outcome_at run.phase ≡ None → Went run frames a z → ended_of run frames ≡ Some o → (run_after run frames).kept.seen ≡ (finished run.kept o).seen
+pub kept_last : (run : Run) (frames : List (List ℕ)) (a z : Links) (o : Outcome) → outcome_at run.phase ≡ None → Went run frames a z → ended_of run frames ≡ Some o → (run_after run frames).kept.seen ≡ (finished run.kept o).seen
 kept_last run [] a z o going went ends = absurd (cc)
 kept_last run (f ∷ frames) a z o going (m, turned, more) ends = kept_from (took run f) run.kept frames m z o (took run f).phase refl refl more ends
 
 -- ---- how far was seen
 
-le_greater : (b : Bool) (m n : ℕ) → nat_lt m n ≡ b → m ≤ (if b then n else m)
+pub le_greater : (b : Bool) (m n : ℕ) → nat_lt m n ≡ b → m ≤ (if b then n else m)
 le_greater true m n e = omega (arith, ltb-true m n e)
 le_greater false m n e = omega arith
 
@@ -123,9 +123,6 @@ told_reaches (Some a) (Some z) folder n id (t, is, has) = λ x u e i.
     subst (λ (v : Told). n ≤ length v.history) same (omega (arith, few, has.counted, ids_length t.history))
 
 -- ---- a command that was done
-
-abbrev scene_links : Scene → Links
-scene_links s = links s.lead s.follow
 
 -- an update that was done
 update_done : (k : KeptState) (run : Run) (a z : Scene) (e : Entry) → run.kept.seen ≡ k.seen → run.kept.folder ≡ k.folder → run.phase ≡ Updating e StageFollow → CameWell run a z → IsDone k run a z
@@ -234,7 +231,7 @@ search_done k seed word run a z range is c = by c.outcome refl c.good
 -- ---- the two lengths
 
 -- what the two lengths come to: they are told, or a check failed
-abbrev IsMeasured : Outcome → Type 0
+abbrev pub IsMeasured : Outcome → Type 0
 IsMeasured (Lengths lead follow seen) = ⊤
 IsMeasured (Failed f) = ⊤
 IsMeasured (Posted doc number) = ⊥
@@ -249,7 +246,7 @@ measured_by run (Ok n) [] a z o went is = let same : Lengths n.0 n.1 run.kept.se
 measured_by run (Err f) (g ∷ frames) a z o went is = absurd went.1
 measured_by run (Ok n) (g ∷ frames) a z o went is = absurd went.1
 
-measured : (k : KeptState) (seed : List ℕ) (used : ℕ) (frames : List (List ℕ)) (a z : Links) (o : Outcome) → Went (asking k seed used (Measuring None None)) frames a z → ended_of (asking k seed used (Measuring None None)) frames ≡ Some o → IsMeasured o
+pub measured : (k : KeptState) (seed : List ℕ) (used : ℕ) (frames : List (List ℕ)) (a z : Links) (o : Outcome) → Went (asking k seed used (Measuring None None)) frames a z → ended_of (asking k seed used (Measuring None None)) frames ≡ Some o → IsMeasured o
 measured k seed used [] a z o went is = absurd (cc)
 measured k seed used (f ∷ []) a z o went is = absurd (cc)
 measured k seed used (f ∷ g ∷ frames) a z o (m, first, (n, second, more)) is =
@@ -275,7 +272,7 @@ measure_done k seed run a z seen is c = by c.outcome refl c.good
 
 -- ---- nothing asked
 
-no_frames : (run : Run) (o : Outcome) (frames : List (List ℕ)) (a z : Links) → run.phase ≡ Ended o → Went run frames a z → frames ≡ []
+pub no_frames : (run : Run) (o : Outcome) (frames : List (List ℕ)) (a z : Links) → run.phase ≡ Ended o → Went run frames a z → frames ≡ []
 no_frames run o [] a z is went = refl
 no_frames run o (f ∷ frames) a z is (m, turned, more) = absurd (subst (λ (p : Phase). Turned run (asks p) a m f) is turned)
 
@@ -287,18 +284,18 @@ rest_done k run a z o seen is c =
 
 -- ---- a whole call
 
-by_kind : (k : KeptState) (seed : List ℕ) (run : Run) (a z : Scene) → IsKeptState k → IsBeginning k seed run → Kind k seed run → CameWell run a z → IsDone k run a z
-by_kind k seed run a z range b (Updates e is) c = update_done k run a z e b.seen b.folder is c
-by_kind k seed run a z range b (Searches word is) c = search_done k seed word run a z range is c
-by_kind k seed run a z range b (Measures is) c = measure_done k seed run a z b.seen is c
-by_kind k seed run a z range b (Rests o is) c = rest_done k run a z o b.seen is c
+by_kind : (k : KeptState) (seed : List ℕ) (of : Command) (run : Run) (a z : Scene) → IsKeptState k → IsBeginning k seed of run → Kind k seed of run → CameWell run a z → IsDone k run a z
+by_kind k seed of run a z range b (Updates e is) c = update_done k run a z e b.seen b.folder is c
+by_kind k seed of run a z range b (Searches word named is) c = search_done k seed word run a z range is c
+by_kind k seed of run a z range b (Measures named is) c = measure_done k seed run a z b.seen is c
+by_kind k seed of run a z range b (Rests o good is) c = rest_done k run a z o b.seen is c
 
 by_start : (s : Start) (seed : List ℕ) (i i' : Input) (a z : Scene) → Loads s seed i i' a z ends.Done → DoesStart s seed i i' a z
 by_start (Init first) seed i i' a z loads = tt
 by_start (Act t) seed i i' a z loads =
     let d = did seed t i i' a z loads in
     let b = beginning d.k seed (command_of d.k d.begins.text t) d.run d.begins.begins in
-    (d.k, d.run, d.begins, by_kind d.k seed d.run a z d.begins.in_range b b.kind d.came)
+    (d.k, d.run, d.begins, by_kind d.k seed (command_of d.k d.begins.text t) d.run a z d.begins.in_range b b.kind d.came)
 
 by_line : (r : Result Line UsageFault) (seed : List ℕ) (i i' : Input) (a z : Scene) → Runs r seed i i' a z ends.Done → DoesLine r seed i i' a z
 by_line (Ok line) seed i i' a z loads = by_start (start_of line) seed i i' a z loads

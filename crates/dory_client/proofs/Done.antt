@@ -1,11 +1,8 @@
 -- What a call that is done has come through.
-use Rattle.std.proofs.Common.{◌≡◌, ℕ, List, Option, None, Some, Result, Ok, Err, refl, ap, sym, ◌∙◌, subst, inl, inr}
-use Rattle.std.specs.Prelude.{◌⊎◌}
+use Rattle.std.proofs.Common.{◌≡◌, ℕ, List, Option, None, Some, Result, Ok, Err, refl, inl, inr}
 use Rattle.std.specs.Io.KnownBytes.{Appends}
 use Rattle.dory_base.specs.declared.ids.Side.{Side}
 use Rattle.dory_io.specs.Bytes.{Tells}
-use Rattle.dory_cli.specs.declared.line.Line.{Line}
-use Rattle.dory_cli.specs.declared.fault.UsageFault.{UsageFault}
 use Rattle.dory_state.specs.declared.kept.KeptState.{KeptState}
 use Rattle.dory_state.specs.declared.fault.StateFault.{StateFault}
 use Rattle.dory_state.specs.Spelling.{IsKeptState}
@@ -14,11 +11,9 @@ use Rattle.dory_member.specs.declared.outcome.Fault.{Fault}
 use Rattle.dory_member.specs.declared.outcome.Fault.TheVariants as fault
 use Rattle.dory_member.specs.declared.outcome.Outcome.{Outcome}
 use Rattle.dory_member.specs.declared.phase.Run.{Run}
-use Rattle.dory_member.specs.Course.{Ask as Asking, asks, begun, ended_of, run_after}
+use Rattle.dory_member.specs.Course.{Ask as Asking, asks, ended_of, run_after}
 use Rattle.dory_client.specs.declared.start.Todo.{Todo}
-use Rattle.dory_client.specs.declared.start.Start.{Start}
-use Rattle.dory_client.specs.declared.start.Start.TheVariants.{Init, Act}
-use Rattle.dory_client.specs.declared.end.ClientEnd.{ClientEnd}
+use Rattle.dory_client.specs.declared.start.Start.TheVariants.{Act}
 use Rattle.dory_client.specs.declared.end.ClientEnd.TheVariants as ends
 use Rattle.dory_client.specs.Command.{HasText, NoCommand}
 use Rattle.dory_client.specs.Confirmed.{IsBegun}
@@ -27,14 +22,13 @@ use Rattle.dory_client.specs.declared.input.InputEnd.{InputEnd}
 use Rattle.dory_client.specs.declared.input.InputEnd.TheVariants as input
 use Rattle.dory_client.specs.Goes.{Goes, Unsaved, Broken, RanOut, Fell, Unkept, Came, IsGood, Says, Wrote, WrotePart, Untold, WentBy, line_of}
 use Rattle.dory_client.specs.Kept.{KeepsOf}
-use Rattle.dory_client.specs.Run.{Acts, NotMade, Refused, NoRoom, Began, ActsIn, MayAct, StartsIn, Loads, Unloaded, Loaded}
+use Rattle.dory_client.specs.Run.{Acts, NotMade, Refused, NoRoom, Began, ActsIn, StartsIn, Loads, Unloaded, Loaded}
 use Rattle.dory_client.specs.Scene.{Input, Scene}
-use Rattle.dory_client.specs.Start.{command_of}
-use Rattle.dory_client.specs.Way.{Broke, Links, Stuck}
+use Rattle.dory_client.specs.Way.{Links, Stuck}
 
 -- ---- ends that aren't `Done`
 
-not_fault : (f : Fault) → ends.Done ≡ end_of f → ⊥
+pub not_fault : (f : Fault) → ends.Done ≡ end_of f → ⊥
 not_fault (fault.Check c) e = cc
 not_fault (fault.Unconfirmed side want got) e = cc
 not_fault (fault.Diverged number lead_id follow_id) e = cc
@@ -48,7 +42,7 @@ not_input input.Fault e = cc
 not_input input.Long e = cc
 not_input input.NoMemory e = cc
 
-not_keeper : IsKeeperEnd ends.Done → ⊥
+pub not_keeper : IsKeeperEnd ends.Done → ⊥
 not_keeper (inl e) = cc
 not_keeper (inr e) = cc
 
@@ -56,7 +50,7 @@ not_failed : (side : Side) → FailsAs side ends.Done → ⊥
 not_failed side (inl e) = cc
 not_failed side (inr e) = cc
 
-not_stuck : (run : Run) (o : Option Asking) (a z : Links) → Stuck run o a z ends.Done → ⊥
+pub not_stuck : (run : Run) (o : Option Asking) (a z : Links) → Stuck run o a z ends.Done → ⊥
 not_stuck run None a z s = s
 not_stuck run (Some ask) a z s = not_failed ask.side s.1
 
@@ -93,7 +87,7 @@ pub record DidWell (t : Todo) (seed : List ℕ) (i i' : Input) (a z : Scene) : T
   pub begins : IsBegun t seed i i' a k run
   pub came : CameWell run a z
 
-not_made : (k : KeptState) (t : Todo) (i i' : Input) → NoCommand k t i i' ends.Done → ⊥
+pub not_made : (k : KeptState) (t : Todo) (i i' : Input) → NoCommand k t i i' ends.Done → ⊥
 not_made k t i i' (Rattle.dory_client.specs.Command.Refused f e unread is) = not_fault f is
 not_made k t i i' (Rattle.dory_client.specs.Command.NoText e has is) = not_input e is
 not_made k t i i' (Rattle.dory_client.specs.Command.NoRoom text has is) = cc

@@ -2,8 +2,6 @@
 use Rattle.std.proofs.Common.{◌≡◌, ℕ, ◌+◌, ◌-◌, ◌<◌, ◌≤◌, Bor, arith, Bool, true, false, List, [], ◌∷◌, ◌++◌, Option, None, Some, refl, ap, sym, ◌∙◌, subst, inl, inr}
 use Rattle.std.specs.Prelude.{◌⊎◌, if◌then◌else◌}
 use Rattle.dory_base.specs.declared.ids.Side.{Side}
-use Rattle.dory_wire.specs.declared.message.Request.{Request}
-use Rattle.dory_member.specs.declared.phase.Phase.{Phase}
 use Rattle.dory_member.specs.declared.phase.Run.{Run}
 use Rattle.dory_member.specs.declared.outcome.Fault.TheVariants as fault
 use Rattle.dory_member.specs.Course.{Ask as Asking, asks, fails, request_of, run_after, took}

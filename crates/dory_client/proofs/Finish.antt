@@ -11,16 +11,16 @@ use Rattle.dory_member.specs.declared.outcome.Outcome.TheVariants.{Posted, Remov
 use Rattle.dory_member.specs.declared.outcome.Fault.TheVariants as fault
 use Rattle.dory_member.specs.declared.command.Command.{Command}
 use Rattle.dory_member.specs.declared.outcome.Fault.{Fault}
-use Rattle.dory_member.specs.Course.{Ask as Asking, asks, begun, ended_of, fails, finished, kept_at, moved, outcome_at, phase_after, run_after, took}
+use Rattle.dory_member.specs.Course.{Ask as Asking, asks, begun, ended_of, fails, finished, kept_at, outcome_at, phase_after, run_after, took}
 use Rattle.dory_member.specs.Machine.{IsRefused, Machine, Saves, asks_next, begins, first_of, is_asking, keeps, next_of, saves_first, saves_last, turn_of}
 use Rattle.dory_client.specs.declared.end.ClientEnd.{ClientEnd}
 use Rattle.dory_client.specs.declared.end.ClientEnd.TheVariants as ends
 use Rattle.dory_client.specs.Ends.{end_of}
 use Rattle.dory_client.specs.Way.{Links, Turned, Went, links}
 use Rattle.dory_client.specs.Kept.{KeepsIf, KeepsNow, KeepsOf, OldOrNew, quiet}
-use Rattle.dory_client.specs.Driven.{Driven, GoesOn, StandsAt}
+use Rattle.dory_client.specs.Driven.{Driven, StandsAt}
 use Rattle.dory_client.specs.Scene.{IsUntouched, Scene}
-use Rattle.dory_client.specs.Goes.{Goes, Broken, Came, Fell, RanOut, Unkept, Closes, Kept_, Unkept_, Comes, GoesFrom, IsBegun, NoRoom, NotBegun}
+use Rattle.dory_client.specs.Goes.{Goes, Came, Fell, RanOut, Unkept, Closes, SaveDone, SaveFailed, Comes, GoesFrom, IsBegun, NoRoom, NotBegun}
 
 -- ---- what is kept, from one moment to the next
 
@@ -54,7 +54,7 @@ silent (Measuring word lead) h = absurd (cc)
 silent (Searching q lead) h = absurd (cc)
 silent (Ended o) h = refl
 
-no_frames : (run : Run) (frames : List (List ℕ)) (a z : Links) → saves_first run.phase ≡ false → Went run frames a z → frames ≡ []
+pub no_frames : (run : Run) (frames : List (List ℕ)) (a z : Links) → saves_first run.phase ≡ false → Went run frames a z → frames ≡ []
 no_frames run [] a z h went = refl
 no_frames run (f ∷ frames) a z h (m, turned, more) = absurd (subst (λ (o : Option Asking). Turned run o a m f) (silent run.phase h) turned)
 
@@ -176,11 +176,11 @@ finishes run m a z b end first driven closes = by driven.goes.stands closes
     went = driven.goes.went
 
     at_last : m ≡ next_of (run_after run frames) → Closes m b z.kept a.written z.written end → Goes run a z end
-    at_last same (Unkept_ due old_or_new stays is_end) =
+    at_last same (SaveFailed due old_or_new stays is_end) =
         let saving : saves_last (run_after run frames).phase ≡ true = sym (ap (λ (x : Machine). x.unsaved) same) ∙ due in
         let o = last_outcome (run_after run frames).phase saving in
         Unkept frames o.0 went o.1 o.2 (keeps_either run frames (links a.lead a.follow) (links z.lead z.follow) a.kept b z.kept went saving first (subst (λ (x : Machine). OldOrNew b z.kept x.run.kept) same old_or_new)) stays is_end
-    at_last same (Kept_ o is kept comes) =
+    at_last same (SaveDone o is kept comes) =
         let is' : outcome_at (run_after run frames).phase ≡ Some o = sym (ap (λ (x : Machine). outcome_at x.run.phase) same) ∙ is in
         let kept' : KeepsIf (saves_last (run_after run frames).phase) b z.kept (run_after run frames).kept = subst (λ (x : Machine). KeepsIf x.unsaved b z.kept x.run.kept) same kept in
         reached run frames a z end o went is'
@@ -188,8 +188,8 @@ finishes run m a z b end first driven closes = by driven.goes.stands closes
         (keeps_last run frames (links a.lead a.follow) (links z.lead z.follow) a.kept b z.kept went first kept') comes
 
     at_first : frames ≡ [] → m ≡ quiet (first_of run) → Closes m b z.kept a.written z.written end → Goes run a z end
-    at_first none same (Unkept_ due old_or_new stays is_end) = absurd (let still : m.unsaved ≡ false = ap (λ (x : Machine). x.unsaved) same in cc)
-    at_first none same (Kept_ o is kept comes) =
+    at_first none same (SaveFailed due old_or_new stays is_end) = absurd (let still : m.unsaved ≡ false = ap (λ (x : Machine). x.unsaved) same in cc)
+    at_first none same (SaveDone o is kept comes) =
         let back : run_after run frames ≡ run = ap (run_after run) none in
         let is' : outcome_at (run_after run frames).phase ≡ Some o = ap (λ (r : Run). outcome_at r.phase) back ∙ sym (ap (λ (x : Machine). outcome_at x.run.phase) same) ∙ is in
         let stays : Stays b z.kept = stays_if m.unsaved b z.kept m.run.kept (ap (λ (x : Machine). x.unsaved) same) kept in
@@ -199,8 +199,8 @@ finishes run m a z b end first driven closes = by driven.goes.stands closes
     by : StandsAt (quiet (first_of run)) m frames ⊎ ((m.run.phase ≡ fails fault.NoMemory) × (m.unsaved ≡ false)) → Closes m b z.kept a.written z.written end → Goes run a z end
     by (inl (inl (none, same))) c = at_first none same c
     by (inl (inr same)) c = at_last same c
-    by (inr (out, quiet_now)) (Unkept_ due old_or_new stays is_end) = absurd (cc)
-    by (inr (out, quiet_now)) (Kept_ o is kept comes) =
+    by (inr (out, quiet_now)) (SaveFailed due old_or_new stays is_end) = absurd (cc)
+    by (inr (out, quiet_now)) (SaveDone o is kept comes) =
         let only = no_memory_only o m.run.phase a.written z.written end out is comes in
         RanOut frames went (keeps_first run a.kept b z.kept first (stays_if m.unsaved b z.kept m.run.kept quiet_now kept)) only.0 only.1
 

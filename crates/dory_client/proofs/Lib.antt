@@ -15,4 +15,11 @@ pub mod Beginnings
 pub mod Does
 pub mod Replied
 pub mod Complete
+pub mod Acting
 pub mod SearchEnds
+pub mod Confirming
+pub mod Finishes
+pub mod Endings
+pub mod Leaving
+pub mod Writing
+pub mod Putting

@@ -1,14 +1,14 @@
 -- An accepted search is right by each link, or the other link's reply is the forgery.
 use Rattle.std.proofs.Common.{◌≡◌, ℕ, ◌≤◌, ◌^◌, ◌&&◌, Bool, true, false, cond, List, [], ◌∷◌, ◌++◌, Option, Some, None, Ok, refl, inl, inr, arith, ap, sym, ◌∙◌, subst, length, map, append_assoc}
 use Rattle.std.proofs.lemmas.Bool.Decides.{nat_tests}
-use Rattle.std.specs.Prelude.{nat_le, nat_eq}
+use Rattle.std.specs.Prelude.{nat_le}
 use Rattle.std.specs.List.{AllByRecursion}
 use Rattle.dory_base.specs.Dims.{Dims, same_shape}
 use Rattle.dory_base.specs.declared.entry.Entry.{Entry}
 use Rattle.dory_base.specs.declared.ids.AskId.{AskId}
 use Rattle.dory_base.specs.declared.found.Found.{Found}
 use Rattle.dory_base.specs.declared.found.Sum.{Sum}
-use Rattle.dory_base.specs.declared.refusal.Refusal.TheVariants.{NoFolder, ShapeWrong, Unretained, NoMemory}
+use Rattle.dory_base.specs.declared.refusal.Refusal.TheVariants.{NoFolder, ShapeWrong, Unretained}
 use Rattle.dory_base.specs.History.{IsHistory, IsPrefix, version_of}
 use Rattle.dory_base.specs.Sum.{sum_of}
 use Rattle.dory_base.specs.Table.{table_of, manifest_of}
@@ -18,26 +18,23 @@ use Rattle.dory_dpf.specs.PointKey.{PointKey, shares_of}
 use Rattle.dory_query.specs.Pairs.{ArePairs}
 use Rattle.dory_query.proofs.KeyList.{pairs_of, within}
 use Rattle.dory_wire.specs.declared.message.What.{What}
-use Rattle.dory_wire.specs.declared.message.What.TheVariants.{At, Found as Finds, Refused}
-use Rattle.dory_wire.specs.declared.message.Want.TheVariants.{Latest, Search}
-use Rattle.dory_wire.specs.declared.message.Reply.{Reply}
+use Rattle.dory_wire.specs.declared.message.What.TheVariants.{Found as Finds, Refused}
+use Rattle.dory_wire.specs.declared.message.Want.TheVariants.{Search}
 use Rattle.dory_wire.specs.Reading.{reply_in}
 use Rattle.dory_wire.specs.Read.{search_of, IsReadAs, oldest_of, found_of}
 use Rattle.dory_wire.proofs.Fields.{IsBytes}
-use Rattle.dory_link.specs.Told.{Told, Talk, Heard, IsReadAt, IsAnswer, Grown, Grows}
+use Rattle.dory_link.specs.Told.{Told, Talk, Heard, IsAnswer, Grown, Grows}
 use Rattle.dory_verify.specs.declared.answer.Answer.{Answer}
-use Rattle.dory_verify.specs.Checks.{first_fault_of}
 use Rattle.dory_verify.specs.Honest.{IsFoundIn, IsSearch, IsRightOrForged, found_by}
-use Rattle.dory_verify.specs.Listing.{Lists}
 use Rattle.dory_verify.proofs.Beside.{answered_beside_lead, answered_beside_follow}
 use Rattle.dory_verify.proofs.CheckLaws.{checked_ok}
 use Rattle.dory_state.specs.declared.kept.KeptState.{KeptState}
 use Rattle.dory_state.specs.Spelling.{IsKeptState}
 use Rattle.dory_member.specs.Course.{folder_keys}
-use Rattle.dory_client.specs.Sought.{ask_of, asked_of, columns_of, searching, sought_of}
+use Rattle.dory_client.specs.Sought.{ask_of, columns_of, searching, sought_of}
 use Rattle.dory_client.proofs.Course.{Answered}
-use Rattle.dory_client.specs.Asked.{GrewBy, Replies, spoke}
-use Rattle.dory_client.specs.Headline.{Part, LastCame, IsExactBeside, IsRight, IsRightOf, IsRightBy, lead_part, follow_part}
+use Rattle.dory_client.specs.Asked.{GrewBy, Replies}
+use Rattle.dory_client.specs.Headline.{Part, LastCame, IsExactBeside, IsRightOf, IsRightBy, lead_part, follow_part}
 
 nat_both : (a b c : ℕ) → (nat_le a b && nat_le b c) ≡ true → b ≤ c
 nat_both a b c h = grind (arith, nat_tests)

@@ -1,43 +1,36 @@
 -- How a search ends.
 use Rattle.std.proofs.Common.{◌≡◌, ℕ, Bool, true, false, List, Option, None, Some, Result, Ok, Err, refl, ap, sym, ◌∙◌, subst, inl, inr}
-use Rattle.std.specs.Prelude.{⊤, ◌⊎◌}
+use Rattle.std.specs.Prelude.{◌⊎◌}
 use Rattle.dory_base.specs.declared.ids.Side.{Side}
 use Rattle.dory_base.specs.declared.ids.Side.TheVariants.{Lead, Follow}
-use Rattle.dory_io.specs.Bytes.{Tells}
-use Rattle.dory_io.specs.Causes.{HasCause, Rose}
 use Rattle.dory_cli.specs.Line.{line_of}
 use Rattle.dory_cli.specs.declared.line.Line.{Line}
 use Rattle.dory_cli.specs.declared.line.Line.TheVariants as line
 use Rattle.dory_cli.specs.declared.fault.UsageFault.{UsageFault}
-use Rattle.dory_state.specs.Reading.{state_of}
 use Rattle.dory_state.specs.Spelling.{IsKeptState}
 use Rattle.dory_state.specs.declared.kept.KeptState.{KeptState}
-use Rattle.dory_state.specs.declared.fault.StateFault.{StateFault}
 use Rattle.dory_verify.specs.declared.fault.CheckFault.{CheckFault}
 use Rattle.dory_member.specs.declared.command.Command.TheVariants as command
 use Rattle.dory_member.specs.declared.outcome.Fault.{Fault}
 use Rattle.dory_member.specs.declared.outcome.Fault.TheVariants as fault
 use Rattle.dory_member.specs.declared.outcome.Outcome.TheVariants.{Failed}
 use Rattle.dory_member.specs.declared.phase.Run.{Run}
-use Rattle.dory_member.specs.Course.{Ask as Asking, asks, asking, begun, ended_of, refused_if, run_after}
+use Rattle.dory_member.specs.Course.{Ask as Asking, asks, ended_of, refused_if, run_after}
 use Rattle.dory_member.specs.Draw.{is_last_serial}
 use Rattle.dory_client.specs.declared.start.Todo.TheVariants.{Plain}
-use Rattle.dory_client.specs.declared.start.Start.TheVariants.{Act}
 use Rattle.dory_client.specs.declared.end.ClientEnd.{ClientEnd}
 use Rattle.dory_client.specs.declared.end.ClientEnd.TheVariants as ends
 use Rattle.dory_client.specs.Command.{NoCommand}
 use Rattle.dory_client.specs.Complete.{EndsWell, IsRefusal, KeepsState, TellAlike}
 use Rattle.dory_client.specs.Ends.{FailsAs, IsKeeperEnd, end_of}
-use Rattle.dory_client.specs.Goes.{Goes, Unsaved, Broken, RanOut, Fell, Unkept, Came, Says, Wrote, WrotePart, Untold}
-use Rattle.dory_client.specs.Run.{Acts, NotMade, Refused, NoRoom, Began, ActsIn, IsRun, Loads, Unloaded, Loaded, Runs, StartsIn}
+use Rattle.dory_client.specs.Goes.{Goes, Unsaved, Broken, RanOut, Fell, Unkept, Came, Says, Wrote, WrotePart, Untold, scene_links}
+use Rattle.dory_client.specs.Run.{Acts, NotMade, Refused, NoRoom, Began, IsRun, Runs}
 use Rattle.dory_client.specs.Scene.{Input, Scene}
-use Rattle.dory_client.specs.Way.{Links, Stuck, Went, links}
+use Rattle.dory_client.specs.Way.{Links, Stuck, Went}
+use Rattle.dory_client.proofs.Acting.{Acted, acted}
 use Rattle.dory_client.proofs.Beginnings.{search_begins}
-use Rattle.dory_client.proofs.Complete.{failed_refused, same_state}
+use Rattle.dory_client.proofs.Complete.{failed_refused}
 use Rattle.dory_client.proofs.Searches.{CourseOf, course, start}
-
-abbrev scene_links : Scene → Links
-scene_links s = links s.lead s.follow
 
 -- the ends of a search, and their causes
 pub data SearchEnd (k : KeptState) (seed word : List ℕ) (a z : Scene) (end : ClientEnd) : Type 0 where
@@ -96,43 +89,16 @@ by_acting k seed word i i' a z end (Refused text f has e u is) =
 by_acting k seed word i i' a z end (NoRoom text has u is) = ByMemory is
 by_acting k seed word i i' a z end (Began text r has begins goes) = by_going k seed word a z end r (search_begins k seed word r begins) goes
 
--- a search in a state that is told
-pub record SearchIn (k : KeptState) (seed word : List ℕ) (a z : Scene) (end : ClientEnd) : Type 0 where
-  pub in_range : IsKeptState k
-  pub ends : SearchEnd k seed word a z end
-
+-- the state wasn't read, or it is in range and the search ended so
 abbrev Ended : KeptState → List ℕ → List ℕ → Scene → Scene → ClientEnd → Type 0
-Ended k seed word a z end = IsKeeperEnd end ⊎ SearchIn k seed word a z end
+Ended k seed word a z end = IsKeeperEnd end ⊎ (IsKeptState k × SearchEnd k seed word a z end)
 
-ok_as : (k : KeptState) (r : Result KeptState StateFault) (seed word : List ℕ) (i i' : Input) (a z : Scene) (end : ClientEnd) → r ≡ Ok k → ActsIn r seed (Plain (command.Search word)) i i' a z end → Ended k seed word a z end
-ok_as k (Ok l) seed word i i' a z end is (range, acts) =
-    let same : l ≡ k = cc in
-    inr (subst (λ (x : KeptState). SearchIn x seed word a z end) same (record { in_range = range; ends = by_acting l seed word i i' a z end acts }))
-ok_as k (Err f) seed word i i' a z end is acts = absurd (cc)
-
-abbrev some_bytes : List ℕ → Option (List ℕ)
-some_bytes bytes = Some bytes
-
-told_as : (told : Option (Option (List ℕ))) (k : KeptState) (kept : Option (List ℕ)) → KeepsState told k → Tells told kept → (bytes : List ℕ) × (kept ≡ Some bytes) × (state_of bytes ≡ Ok k)
-told_as None k kept keeps t = absurd keeps
-told_as (Some None) k kept keeps t = absurd keeps
-told_as (Some (Some bytes)) k kept keeps t = (bytes, sym t, keeps)
-
-started : (k : KeptState) (kept : Option (List ℕ)) (bytes seed word : List ℕ) (i i' : Input) (a z : Scene) (end : ClientEnd) → kept ≡ Some bytes → state_of bytes ≡ Ok k → StartsIn (Act (Plain (command.Search word))) kept seed i i' a z end → Ended k seed word a z end
-started k None bytes seed word i i' a z end e is s = absurd (cc)
-started k (Some b) bytes seed word i i' a z end e is (inl (quiet, out)) = inl (inr out)
-started k (Some b) bytes seed word i i' a z end e is (inr acts) =
-    let same : b ≡ bytes = cc in
-    ok_as k (state_of b) seed word i i' a z end (ap state_of same ∙ is) acts
-
-loaded : (k : KeptState) (seed word : List ℕ) (i i' : Input) (a z : Scene) (end : ClientEnd) → KeepsState a.kept k → Loads (Act (Plain (command.Search word))) seed i i' a z end → Ended k seed word a z end
-loaded k seed word i i' a z end keeps (Unloaded quiet is) = inl is
-loaded k seed word i i' a z end keeps (Loaded kept told starts) =
-    let t = told_as a.kept k kept keeps told in
-    started k kept t.0 seed word i i' a z end t.1 t.2 starts
+ended_by : (k : KeptState) (seed word : List ℕ) (i i' : Input) (a z : Scene) (end : ClientEnd) → Acted k seed (Plain (command.Search word)) i i' a z end → Ended k seed word a z end
+ended_by k seed word i i' a z end (inl is) = inl is
+ended_by k seed word i i' a z end (inr (range, acts)) = inr (range, by_acting k seed word i i' a z end acts)
 
 pub search_ended : (words : List (List ℕ)) (k : KeptState) (seed word : List ℕ) (i i' : Input) (a z : Scene) (end : ClientEnd) → line_of words ≡ Ok (line.Search word) → KeepsState a.kept k → IsRun words seed i i' a z end → Ended k seed word a z end
-search_ended words k seed word i i' a z end is keeps run = loaded k seed word i i' a z end keeps (subst (λ (r : Result Line UsageFault). Runs r seed i i' a z end) is run)
+search_ended words k seed word i i' a z end is keeps run = ended_by k seed word i i' a z end (acted k seed (Plain (command.Search word)) i i' a z end keeps (subst (λ (r : Result Line UsageFault). Runs r seed i i' a z end) is run))
 
 -- ---- completeness
 
@@ -158,7 +124,7 @@ complete words seed word i i' a z end is t run f e = by (search_ended words t.st
     by : Ended t.state seed word a z end → IsRefusal f
     by (inl (inl i)) = absurd (cc)
     by (inl (inr i)) = absurd (cc)
-    by (inr s) = check_only t.state seed word a z end f e s.in_range t refl s.ends
+    by (inr s) = check_only t.state seed word a z end f e s.0 t refl s.1
 
 -- where moreover nothing outside failed, a search ends well
 pub ends_well : (words : List (List ℕ)) (seed word : List ℕ) (i i' : Input) (a z : Scene) (end : ClientEnd) (K L F O : Type 0) → line_of words ≡ Ok (line.Search word) → (t : TellAlike a.kept a.lead z.lead a.follow z.follow) → is_last_serial t.state ≡ false → IsRun words seed i i' a z end
@@ -186,4 +152,4 @@ ends_well words seed word i i' a z end K L F O is t left run k l f o nk nl nf no
     by : Ended t.state seed word a z end → EndsWell end
     by (inl (inl e)) = absurd (nk (k e))
     by (inl (inr e)) = so e tt
-    by (inr s) = by_end s.ends s.in_range
+    by (inr s) = by_end s.1 s.0

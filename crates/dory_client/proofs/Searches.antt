@@ -1,12 +1,11 @@
 -- The course of a search, as the frames that came to its run make it.
-use Rattle.std.proofs.Common.{◌≡◌, ℕ, List, [], ◌∷◌, ◌++◌, ◌-◌, take, replicate, Option, None, Some, Result, Ok, Err, refl, ap, sym, ◌∙◌, subst, inl, inr, length}
+use Rattle.std.proofs.Common.{◌≡◌, ℕ, List, [], ◌∷◌, ◌++◌, ◌-◌, take, replicate, Option, None, Some, Result, Ok, Err, refl, ap, sym, ◌∙◌, subst, inl, inr}
 use Rattle.std.proofs.Math.Seq.{take-append_seam}
 use Rattle.dory_base.specs.declared.found.Found.{Found}
 use Rattle.dory_hmac.specs.declared.folder_keys.FolderKeys.{FolderKeys}
 use Rattle.dory_bloom.proofs.Columns.{length-positions_of}
 use Rattle.dory_query.specs.declared.query.Query.{Query}
 use Rattle.dory_query.specs.Columns.{asked_columns}
-use Rattle.dory_verify.specs.declared.answer.Answer.{Answer}
 use Rattle.dory_verify.specs.declared.fault.CheckFault.{CheckFault}
 use Rattle.dory_verify.specs.Checks.{first_fault_of, lengths_of}
 use Rattle.dory_verify.specs.Listing.{Lists}
@@ -14,17 +13,16 @@ use Rattle.dory_wire.specs.declared.message.Want.TheVariants.{Latest}
 use Rattle.dory_state.specs.declared.kept.KeptState.{KeptState}
 use Rattle.dory_member.specs.declared.outcome.Outcome.{Outcome}
 use Rattle.dory_member.specs.declared.outcome.Outcome.TheVariants.{Posted, Removed, Accepted, NothingPending, Lengths as LengthsAre, Rotated, Failed as Fails}
-use Rattle.dory_member.specs.declared.outcome.Fault.{Fault}
 use Rattle.dory_member.specs.declared.outcome.Fault.TheVariants as fault
-use Rattle.dory_member.specs.declared.phase.Phase.TheVariants.{Measuring, Searching}
+use Rattle.dory_member.specs.declared.phase.Phase.TheVariants.{Measuring}
 use Rattle.dory_member.specs.declared.phase.Run.{Run}
-use Rattle.dory_member.specs.Course.{after_lengths, after_search, answer_of, asking, asks, ended_of, folder_keys, outcome_at, lesser, moved, name, query_of, run_after, took}
+use Rattle.dory_member.specs.Course.{after_lengths, after_search, answer_of, asking, ended_of, folder_keys, outcome_at, lesser, moved, query_of, run_after, took}
 use Rattle.dory_member.proofs.Queries.{lists_answer}
 use Rattle.dory_wire.specs.declared.message.Request.{Request}
 use Rattle.dory_link.specs.Told.{Heard}
 use Rattle.dory_client.specs.Asked.{Ask}
-use Rattle.dory_client.specs.Sought.{Sought, ask_of, asked_of, columns_of, searching, sought_of}
-use Rattle.dory_client.specs.Way.{Links, Turned, Went}
+use Rattle.dory_client.specs.Sought.{ask_of, asked_of, columns_of, searching, sought_of}
+use Rattle.dory_client.specs.Way.{Links, Went}
 use Rattle.dory_client.proofs.Course.{Pair, Lengths, Finding, Searched, Answered, Failed}
 
 -- the run of a search
@@ -57,7 +55,7 @@ columns_are run word version =
     ap (λ (n : ℕ). take n (columns ++ zeros)) (sym (length-positions_of (folder_keys run.kept) run.kept.shape word)) ∙ take-append_seam columns zeros
 
 -- two asks, of the lead and then of the follower, over both links
-both_asked : {Y : Type 0} (a m n : Links) (r s : Request) (f g : List ℕ) (check : List ℕ → List ℕ → Result Y CheckFault) (gave : Result Y CheckFault) → Ask a.lead m.lead r f → m.follow ≡ a.follow → n.lead ≡ m.lead → Ask m.follow n.follow s g → check f g ≡ gave
+pub both_asked : {Y : Type 0} (a m n : Links) (r s : Request) (f g : List ℕ) (check : List ℕ → List ℕ → Result Y CheckFault) (gave : Result Y CheckFault) → Ask a.lead m.lead r f → m.follow ≡ a.follow → n.lead ≡ m.lead → Ask m.follow n.follow s g → check f g ≡ gave
     → Pair a.lead n.lead a.follow n.follow r s check gave
 both_asked a m n r s f g check gave first same other second checked = record {
   from_lead = f;

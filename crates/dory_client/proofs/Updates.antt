@@ -1,5 +1,5 @@
 -- An update that is done stands at one number in both histories.
-use Rattle.std.proofs.Common.{◌≡◌, ℕ, ◌+◌, ◌≤◌, Bool, true, false, cond, List, [], ◌∷◌, ◌++◌, append_assoc, Option, None, Some, Result, Ok, Err, refl, ap, sym, ◌∙◌, subst, inl, inr}
+use Rattle.std.proofs.Common.{◌≡◌, ℕ, ◌+◌, Bool, true, false, cond, List, [], ◌∷◌, ◌++◌, append_assoc, Option, None, Some, Result, Ok, Err, refl, ap, sym, ◌∙◌, subst, inl, inr}
 use Rattle.std.specs.Prelude.{◌⊎◌, ⊤, ◌==◌, ◌&&◌, nat_lt}
 use Rattle.std.proofs.lemmas.Bool.{eqb-true, and_parts}
 use Rattle.std.proofs.lemmas.List.{append-nil}
@@ -180,7 +180,7 @@ follow_says s n i (what.Committed number id) m e =
 
 -- ---- where a fault of a first Follow leads
 
-abbrev Leads : Entry → ℕ → Fault → Type 0
+abbrev pub Leads : Entry → ℕ → Fault → Type 0
 Leads e number f = ((at : ℕ) × (after_refused e number f ≡ Updating e (WhichOther number at))) ⊎ (after_refused e number f ≡ fails f)
 
 gap_leads : (b : Bool) (e : Entry) (number at : ℕ) (f : Fault) → ((k : ℕ) × (cond b (Updating e (WhichOther number at)) (fails f) ≡ Updating e (WhichOther number k))) ⊎ (cond b (Updating e (WhichOther number at)) (fails f) ≡ fails f)
@@ -214,7 +214,8 @@ check_leads e number (check.Manifest place) = inr refl
 check_leads e number (check.Count s got want) = inr refl
 check_leads e number (check.TagSum probe got want) = inr refl
 
-leads : (e : Entry) (number : ℕ) (f : Fault) → Leads e number f
+-- a first Follow's fault leads to the repair, or is the command's
+pub leads : (e : Entry) (number : ℕ) (f : Fault) → Leads e number f
 leads e number (fault.Check c) = check_leads e number c
 leads e number (fault.Unconfirmed s want got) = inr refl
 leads e number (fault.Diverged n lead_id follow_id) = inr refl

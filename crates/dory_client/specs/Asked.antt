@@ -1,5 +1,5 @@
 -- One ask, as the links tell it.
-use Rattle.std.specs.Prelude.{ℕ, ◌≡◌, ◌<◌, ⊤, ◌⊎◌, List, [], ◌∷◌, ◌++◌, slice_index, map, take, Option, Some, None}
+use Rattle.std.specs.Prelude.{ℕ, ◌≡◌, ◌<◌, ⊤, List, [], ◌∷◌, ◌++◌, slice_index, map, take, Option, Some, None}
 use Rattle.dory_wire.specs.declared.message.Request.{Request}
 use Rattle.dory_wire.specs.declared.message.What.{What}
 use Rattle.dory_wire.specs.Frame.{frame_of}

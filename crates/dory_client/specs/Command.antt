@@ -1,5 +1,5 @@
 -- Which command a member runs, by its kept state and by what the input had.
-use Rattle.std.specs.Prelude.{ℕ, ◌≡◌, ◌≤◌, ◌⊎◌, Bool, List, [], length, Option, Result, Ok, Err}
+use Rattle.std.specs.Prelude.{ℕ, ◌≡◌, ◌≤◌, ◌⊎◌, Bool, List, [], length, Result, Ok, Err}
 use Rattle.dory_bloom.specs.PlainRow.{plain_row_of}
 use Rattle.dory_words.specs.WordsIn.{words_in}
 use Rattle.dory_state.specs.declared.kept.KeptState.{KeptState}
@@ -12,7 +12,8 @@ use Rattle.dory_client.specs.declared.start.Todo.TheVariants.{Post, Plain}
 use Rattle.dory_client.specs.declared.end.ClientEnd.{ClientEnd}
 use Rattle.dory_client.specs.declared.end.ClientEnd.TheVariants as ends
 use Rattle.dory_client.specs.Ends.{end_of, input_end}
-use Rattle.dory_client.specs.Input.{Came, IsNoText, IsOver, text_limit}
+use Rattle.dory_client.specs.Input.{IsNoText, text_limit}
+use Rattle.dory_io.specs.Bytes.{Came, IsOver}
 use Rattle.dory_client.specs.Scene.{Input, IsUnread}
 use Rattle.dory_client.specs.Start.{command_of}
 

@@ -1,5 +1,5 @@
 -- What a command that is done did: which update both domains have at one number, and how far the member has seen.
-use Rattle.std.specs.Prelude.{ℕ, ◌≡◌, ◌≤◌, ◌-◌, ⊤, List, [], ◌∷◌, length, slice_get, Option, Some, None, Result, Ok, Err}
+use Rattle.std.specs.Prelude.{ℕ, ◌≡◌, ◌≤◌, ◌-◌, ⊤, List, length, slice_get, Option, Some, None, Result, Ok, Err}
 use Rattle.std.specs.Io.KnownBytes.{Appends}
 use Rattle.dory_base.specs.Step.{ids_of}
 use Rattle.dory_base.specs.declared.entry.Entry.{Entry}
@@ -12,7 +12,6 @@ use Rattle.dory_cli.specs.declared.fault.UsageFault.{UsageFault}
 use Rattle.dory_state.specs.declared.kept.KeptState.{KeptState}
 use Rattle.dory_state.specs.Spelling.{IsKeptState}
 use Rattle.dory_state.specs.Reading.{state_of}
-use Rattle.dory_member.specs.declared.outcome.Outcome.{Outcome}
 use Rattle.dory_member.specs.declared.phase.Phase.{Phase}
 use Rattle.dory_member.specs.declared.phase.Phase.TheVariants.{Updating, Measuring, Searching, Ended}
 use Rattle.dory_member.specs.declared.phase.Run.{Run}
@@ -87,6 +86,7 @@ abbrev pub DoesStart : Start → List ℕ → Input → Input → Scene → Scen
 DoesStart (Init first) seed i i' a z = ⊤
 DoesStart (Act t) seed i i' a z = (k : KeptState) × (run : Run) × IsBegun t seed i i' a k run × IsDone k run a z
 
+-- the same of words that were read as a line
 abbrev pub DoesLine : Result Line UsageFault → List ℕ → Input → Input → Scene → Scene → Type 0
 DoesLine (Ok line) seed i i' a z = DoesStart (start_of line) seed i i' a z
 DoesLine (Err fault) seed i i' a z = ⊥

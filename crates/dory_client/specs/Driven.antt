@@ -1,7 +1,6 @@
 -- A member that is driven over its two links until it asks nothing more.
 use Rattle.std.specs.Prelude.{ℕ, ◌≡◌, ◌⊎◌, false, List, []}
 use Rattle.dory_member.specs.declared.outcome.Fault.TheVariants as fault
-use Rattle.dory_member.specs.declared.phase.Run.{Run}
 use Rattle.dory_member.specs.Course.{fails, run_after}
 use Rattle.dory_member.specs.Machine.{Machine, is_asking, next_of, turn_of}
 use Rattle.dory_client.specs.Way.{Links, Went}

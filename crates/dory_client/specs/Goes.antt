@@ -17,7 +17,7 @@ use Rattle.dory_client.specs.declared.end.ClientEnd.TheVariants as ends
 use Rattle.dory_client.specs.Ends.{end_of, IsKeeperEnd}
 use Rattle.dory_client.specs.Kept.{KeepsIf, KeepsNow, KeepsOf, OldOrNew}
 use Rattle.dory_client.specs.Scene.{Scene, AskedNothing, IsUntouched, WroteNothing}
-use Rattle.dory_client.specs.Way.{Broke, Went, links}
+use Rattle.dory_client.specs.Way.{Broke, Links, Went, links}
 
 -- a text was to be written: it was, or the first part of it, or memory ran out and nothing was
 pub data Says (text : List ℕ) (before now : Option (List ℕ)) (end : ClientEnd) : Type 0 where
@@ -49,15 +49,20 @@ IsGood (Lengths lead follow seen) = ⊤
 IsGood (Rotated epoch) = ⊤
 IsGood (Failed f) = ⊥
 
+-- what both links tell at a moment
+abbrev pub scene_links : Scene → Links
+scene_links s = links s.lead s.follow
+
 -- these frames came to a run, each to what it asked
 abbrev pub WentBy : Run → List (List ℕ) → Scene → Scene → Type 0
-WentBy run frames a z = Went run frames (links a.lead a.follow) (links z.lead z.follow)
+WentBy run frames a z = Went run frames (scene_links a) (scene_links z)
 
+-- how a command goes on, by how far it came
 pub data Goes (run : Run) (a z : Scene) (end : ClientEnd) : Type 0 where
   -- the first save failed, and nothing was asked
   Unsaved : AskedNothing a z → OldOrNew a.kept z.kept run.kept → WroteNothing a z → IsKeeperEnd end → Goes run a z end
   -- an ask brought no frame
-  Broken : Broke run (links a.lead a.follow) (links z.lead z.follow) end → KeepsOf run a.kept z.kept run.kept → WroteNothing a z → Goes run a z end
+  Broken : Broke run (scene_links a) (scene_links z) end → KeepsOf run a.kept z.kept run.kept → WroteNothing a z → Goes run a z end
   -- memory ran out when these frames had come
   RanOut : (frames : List (List ℕ)) → WentBy run frames a z → KeepsOf run a.kept z.kept run.kept → WroteNothing a z → end ≡ ends.NoMemory → Goes run a z end
   -- the command failed by these frames
@@ -71,8 +76,8 @@ pub data Goes (run : Run) (a z : Scene) (end : ClientEnd) : Type 0 where
 
 -- A member that asks nothing more: its state is kept where that is due, and its outcome comes to the end.
 pub data Closes (m : Machine) (kept kept' : Option (Option (List ℕ))) (written written' : Option (List ℕ)) (end : ClientEnd) : Type 0 where
-  Unkept_ : m.unsaved ≡ true → OldOrNew kept kept' m.run.kept → Stays written written' → IsKeeperEnd end → Closes m kept kept' written written' end
-  Kept_ : (outcome : Outcome) → outcome_at m.run.phase ≡ Some outcome → KeepsIf m.unsaved kept kept' m.run.kept → Comes outcome written written' end → Closes m kept kept' written written' end
+  SaveFailed : m.unsaved ≡ true → OldOrNew kept kept' m.run.kept → Stays written written' → IsKeeperEnd end → Closes m kept kept' written written' end
+  SaveDone : (outcome : Outcome) → outcome_at m.run.phase ≡ Some outcome → KeepsIf m.unsaved kept kept' m.run.kept → Comes outcome written written' end → Closes m kept kept' written written' end
 
 -- a command goes on where it begins; where it is refused, or memory runs out, nothing was asked, kept or written
 pub data GoesFrom (k : KeptState) (seed : List ℕ) (c : Command) (a z : Scene) (end : ClientEnd) : Type 0 where

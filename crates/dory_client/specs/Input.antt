@@ -1,24 +1,13 @@
 -- A text that is read to the end of its input.
-use Rattle.std.specs.Prelude.{ℕ, ◌≡◌, ◌≤◌, ◌<◌, ◌+◌, ◌-◌, ◌^◌, min, ⊤, List, [], length, Option, Some, None, Vec, Result, Ok, Err}
-use Rattle.std.specs.Io.KnownBytes.{Consumes}
+use Rattle.std.specs.Prelude.{ℕ, ◌≡◌, ◌≤◌, ◌<◌, ⊤, List, length, Option, Some, None, Vec, Result, Ok, Err}
 use Rattle.std.specs.declared.alloc.Global.{Global}
+use Rattle.dory_io.specs.Bytes.{Came, IsOver}
 use Rattle.dory_client.specs.declared.input.InputEnd.{InputEnd}
 use Rattle.dory_client.specs.declared.input.InputEnd.TheVariants.{Fault, Long, NoMemory}
 
 -- the most bytes of a text
 abbrev pub text_limit : ℕ
 text_limit = 8388608
-
--- these bytes came of an input: they are the first of what was left, where it tells that, and they are counted
-pub record Came (before after : Option (List ℕ)) (given counted : ℕ) (bytes : List ℕ) : Type 0 where
-  pub first : Consumes before after bytes
-  pub count : min (given + length bytes) (2 ^ 64 - 1) ≤ counted
-
--- nothing is left of an input, where it told what was left
-abbrev pub IsOver : Option (List ℕ) → Option (List ℕ) → Type 0
-IsOver None after = ⊤
-IsOver (Some before) None = ⊥
-IsOver (Some before) (Some after) = after ≡ []
 
 -- the bytes that came are a text where the input is over and they are no more than a text has, and are too long where they
 -- are more

@@ -14,3 +14,7 @@ pub mod Sought
 pub mod Headline
 pub mod Confirmed
 pub mod Complete
+pub mod Finishes
+pub mod Leaves
+pub mod Writes
+pub mod Puts

@@ -1,5 +1,5 @@
 -- A whole call, from its words to its end, in the order in which it may be refused.
-use Rattle.std.specs.Prelude.{ℕ, ◌≡◌, ◌≤◌, ◌⊎◌, List, [], ◌∷◌, ◌++◌, length, Option, Some, None, Result, Ok, Err, codes}
+use Rattle.std.specs.Prelude.{ℕ, ◌≡◌, ◌⊎◌, List, [], ◌∷◌, ◌++◌, Option, Some, None, Result, Ok, Err, codes}
 use Rattle.dory_io.specs.Bytes.{Stays, Tells}
 use Rattle.dory_cli.specs.Line.{line_of}
 use Rattle.dory_cli.specs.declared.line.Line.{Line}

@@ -15,9 +15,11 @@ pub record Scene : Type 0 where
   pub follow : Heard
   pub written : Option (List ℕ)
 
+-- an input that tells this
 abbrev pub input_at : Option (List ℕ) → ℕ → Input
 input_at left given = record { left = left; given = given }
 
+-- a moment at which this is kept, told and written
 abbrev pub scene : Option (Option (List ℕ)) → Heard → Heard → Option (List ℕ) → Scene
 scene kept lead follow written = record { kept = kept; lead = lead; follow = follow; written = written }
 

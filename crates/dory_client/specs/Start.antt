@@ -1,5 +1,5 @@
 -- What a command line sets out to do.
-use Rattle.std.specs.Prelude.{ℕ, ⊤, List, Option, Some, None}
+use Rattle.std.specs.Prelude.{ℕ, ⊤, List, None}
 use Rattle.dory_base.specs.Dims.{Dims}
 use Rattle.dory_bloom.specs.PlainRow.{plain_row_of}
 use Rattle.dory_words.specs.WordsIn.{words_in}

@@ -15,6 +15,7 @@ pub record Links : Type 0 where
   pub lead : Heard
   pub follow : Heard
 
+-- two links that tell this
 abbrev pub links : Heard → Heard → Links
 links lead follow = record { lead = lead; follow = follow }
 

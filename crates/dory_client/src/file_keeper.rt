@@ -38,12 +38,12 @@ impl<'a, R: Files<File = File>> FileKeeper<'a, R> {
     }
 }
 
-/// Opens a file for writing, which its owner alone may read where it is made.
-fn open_own<R: Files<File = File>>(rt: &R, path: &str, truncate: bool) -> io::Result<File> {
+/// Opens a file for writing, which its owner alone may read. It is made where it isn't there, or has to be new.
+fn open_own<R: Files<File = File>>(rt: &R, path: &str, new: bool) -> io::Result<File> {
     OpenOptions::new()
         .write(true)
         .create(true)
-        .truncate(truncate)
+        .create_new(new)
         .mode(OWNER_ALONE)
         .open(rt, path)
 }
@@ -56,8 +56,9 @@ fn held_lock<R: Files<File = File>>(rt: &R, alloc: Global, path: &str) -> io::Re
     Ok(file)
 }
 
-/// Writes a whole file and waits until the disk has it.
+/// Writes a whole new file, in place of what a run that broke off has left, and waits until the disk has it.
 fn write_synced<R: Files<File = File>>(rt: &R, path: &str, bytes: &[u8]) -> io::Result<()> {
+    let _ = fs::remove_file(rt, path);
     let mut file = open_own(rt, path, true)?;
     file.write_all(bytes)?;
     file.sync_all()

@@ -20,14 +20,14 @@ use crate::run::client_run;
 use dory_base::NoMemory;
 use dory_cli::UsageFault;
 use dory_io::write_all;
-use dory_net::{StdSink, StdSource, TcpLink};
+use dory_net::{StdSink, StdSource, TcpLink, typed_words};
 use std::alloc::Global;
 use std::fs::File;
 use std::io::{Read, Write};
 use std::net::{Net, TcpStream};
 use std::process::ExitCode;
-use std::rt::{Env, Files};
-use std::{env, fs, io};
+use std::rt::Files;
+use std::{fs, io};
 
 /// What `--help` writes.
 const HELP: &str = "dory: a member of a shared folder, searched over two servers
@@ -59,15 +59,6 @@ const VERSION: &str = "dory 0.2.0\n";
 
 /// The status where no seed could be read.
 const NO_SEED: u8 = 13;
-
-/// The words after the program's name.
-fn typed_words<R: Env + AllocGlobal>(rt: &R) -> io::Result<Vec<String>> {
-    let mut words = Vec::new(rt.alloc());
-    for word in env::args(rt)?.skip(1) {
-        words.push(word)?;
-    }
-    Ok(words)
-}
 
 /// The text that a lone `--help` or `--version` asks for.
 fn asked_text(words: &[String]) -> Option<&'static str> {

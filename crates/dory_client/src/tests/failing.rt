@@ -1,10 +1,9 @@
 //! What fails in turn while a post is under way, what is kept then, and how the member goes on.
 
-use super::folder::{Came, Folder, INIT, called, empty_folder, link, says, words_of};
+use super::folder::{Came, Folder, INIT, called, called_with, empty_folder, link, says};
 use crate::end::ClientEnd;
-use crate::run::client_run;
 use dory_base::Side;
-use dory_io::{MemKeeper, VecSink, VecSource};
+use dory_io::{Keeper, MemKeeper};
 use dory_kernel::{RowKernel, lane_parity};
 use std::alloc::Global;
 use std::test::Fail;
@@ -77,37 +76,188 @@ fn a_post_whose_ask_is_lost_is_resumed(rt: HostRuntime) -> Result<(), Fail> {
     Ok(())
 }
 
-/// How a post ends whose source's or sink's first call is to fail.
-fn post_with(
+/// Whose call is to fail.
+#[derive(Clone, Copy, PartialEq)]
+enum Object {
+    Keeper,
+    Lead,
+    Follow,
+    Source,
+    Sink,
+}
+
+/// A command of which one call fails, the first or a later one of its object, how it ends, and what is kept then: the next
+/// serial, the version seen, how many posts are counted, and whether an update is pending.
+#[derive(Drop)]
+struct Case {
+    object: Object,
+    call: u64,
+    end: ClientEnd,
+    kept: (u64, u32, u32, bool),
+}
+
+/// The calls of an object that are to fail.
+fn fails(alloc: Global, case: &Case, object: Object) -> Result<Vec<u64>, Fail> {
+    let mut listed = Vec::new(alloc);
+    if case.object == object {
+        listed.push(case.call)?;
+    }
+    Ok(listed)
+}
+
+/// A folder whose links are to fail so, in which a document was posted where that is asked.
+fn folder_for(alloc: Global, kernel: RowKernel, case: &Case, posted: bool) -> Result<Folder, Fail> {
+    let again = kernel.again();
+    let mut folder = Folder {
+        lead: link(
+            alloc,
+            kernel,
+            Side::Lead,
+            2,
+            &fails(alloc, case, Object::Lead)?,
+        )?,
+        follow: link(
+            alloc,
+            again,
+            Side::Follow,
+            2,
+            &fails(alloc, case, Object::Follow)?,
+        )?,
+        keeper: MemKeeper::new(Some(super::folder::state(alloc, 1, 0, 0)?), Vec::new(alloc)),
+    };
+    if posted && !says(alloc, &mut folder, "post 7", b"alpha", b"posted 7 at 1\n")? {
+        return Err("no post".into());
+    }
+    Ok(folder)
+}
+
+/// Whether a state has these numbers, and an update pending or not.
+fn is_kept(alloc: Global, bytes: &[u8], kept: (u64, u32, u32, bool)) -> Result<bool, Fail> {
+    let (serial, seen, used, pending) = kept;
+    let state = super::folder::state(alloc, serial, seen, used)?;
+    let Some((_, front)) = state.split_last() else {
+        return Ok(false);
+    };
+    let at = front.len();
+    Ok(bytes.len() > at && &bytes[..at] == front && (bytes[at] != 0) == pending)
+}
+
+/// Whether a command that begins with these bytes kept ends as the case says.
+fn ends_so(
     alloc: Global,
     folder: &mut Folder,
-    source: &[u64],
-    sink: &[u64],
-) -> Result<Came, Fail> {
-    let words = words_of(alloc, "post 7")?;
-    let mut input = VecSource::new(b"alpha".to_vec(alloc)?, source.to_vec(alloc)?);
-    let mut out = VecSink::new(alloc, 200, sink.to_vec(alloc)?)?;
-    let end = client_run(
-        alloc,
-        &words,
-        [0; 32],
-        &mut folder.lead,
-        &mut folder.follow,
-        &mut folder.keeper,
-        &mut input,
-        &mut out,
-    );
-    Ok(Came { end, out })
+    line: &str,
+    before: Vec<u8>,
+    case: &Case,
+) -> Result<bool, Fail> {
+    folder.keeper = MemKeeper::new(Some(before), fails(alloc, case, Object::Keeper)?);
+    let source = fails(alloc, case, Object::Source)?;
+    let sink = fails(alloc, case, Object::Sink)?;
+    let came = called_with(alloc, folder, line, b"alpha", &source, &sink)?;
+    let Ok(Some(bytes)) = folder.keeper.load(alloc) else {
+        return Ok(false);
+    };
+    Ok(came.end == case.end && is_kept(alloc, &bytes, case.kept)?)
+}
+
+/// A command's link that fails.
+const fn lost(side: Side) -> ClientEnd {
+    ClientEnd::LinkFault { side }
+}
+
+const fn failing(object: Object, call: u64, end: ClientEnd, kept: (u64, u32, u32, bool)) -> Case {
+    Case {
+        object,
+        call,
+        end,
+        kept,
+    }
 }
 
 #[test]
-fn an_input_that_fails_changes_nothing(rt: HostRuntime) -> Result<(), Fail> {
+fn a_post_of_which_one_call_fails_keeps_one_of_three_states(rt: HostRuntime) -> Result<(), Fail> {
     let alloc = rt.alloc();
-    let mut folder = begun(alloc, RowKernel::new(lane_parity), &[])?;
-    let came = post_with(alloc, &mut folder, &[1], &[])?;
-    assert!(rt; came.end == ClientEnd::InputFault && came.end.status() == 6);
-    assert!(rt; folder.follow.exchanges().is_empty());
-    assert!(rt; says(alloc, &mut folder, "resume", b"", b"nothing pending\n")?);
+    let old = (1, 0, 0, false);
+    let first = (2, 0, 1, true);
+    let cases = [
+        failing(Object::Keeper, 1, ClientEnd::KeeperFault, old),
+        failing(Object::Source, 1, ClientEnd::InputFault, old),
+        failing(Object::Keeper, 2, ClientEnd::KeeperFault, old),
+        failing(Object::Follow, 1, lost(Side::Follow), first),
+        failing(Object::Lead, 1, lost(Side::Lead), first),
+        failing(Object::Lead, 2, lost(Side::Lead), first),
+        failing(Object::Follow, 2, lost(Side::Follow), first),
+        failing(Object::Keeper, 3, ClientEnd::KeeperFault, first),
+        failing(Object::Sink, 1, ClientEnd::OutputFault, (2, 1, 1, false)),
+    ];
+    for (at, case) in cases.iter().enumerate() {
+        let mut folder = folder_for(alloc, RowKernel::new(lane_parity), case, false)?;
+        let before = super::folder::state(alloc, 1, 0, 0)?;
+        assert!(rt;
+            ends_so(alloc, &mut folder, "post 7", before, case)?,
+            "{at}"
+        );
+        let asked = !folder.follow.exchanges().is_empty();
+        assert!(rt; asked == (case.kept != old), "{at}");
+    }
+    Ok(())
+}
+
+#[test]
+fn a_search_of_which_one_call_fails_keeps_one_of_three_states(rt: HostRuntime) -> Result<(), Fail> {
+    let alloc = rt.alloc();
+    let old = (2, 0, 1, false);
+    let first = (3, 0, 1, false);
+    let cases = [
+        failing(Object::Keeper, 1, ClientEnd::KeeperFault, old),
+        failing(Object::Keeper, 2, ClientEnd::KeeperFault, old),
+        failing(Object::Lead, 3, lost(Side::Lead), first),
+        failing(Object::Follow, 3, lost(Side::Follow), first),
+        failing(Object::Lead, 4, lost(Side::Lead), first),
+        failing(Object::Follow, 4, lost(Side::Follow), first),
+        failing(Object::Keeper, 3, ClientEnd::KeeperFault, first),
+        failing(Object::Sink, 1, ClientEnd::OutputFault, (3, 1, 1, false)),
+    ];
+    for (at, case) in cases.iter().enumerate() {
+        let mut folder = folder_for(alloc, RowKernel::new(lane_parity), case, true)?;
+        let before = super::folder::state(alloc, 2, 0, 1)?;
+        assert!(rt;
+            ends_so(alloc, &mut folder, "search alpha", before, case)?,
+            "{at}"
+        );
+    }
+    Ok(())
+}
+
+#[test]
+fn a_first_state_of_which_one_call_fails_is_kept_or_not(rt: HostRuntime) -> Result<(), Fail> {
+    let alloc = rt.alloc();
+    let none: [&[u64]; 2] = [&[1], &[2]];
+    for listed in none {
+        let mut folder = empty_folder(alloc, RowKernel::new(lane_parity), 2)?;
+        folder.keeper = MemKeeper::new(None, listed.to_vec(alloc)?);
+        assert!(rt; called(alloc, &mut folder, INIT, b"")?.end == ClientEnd::KeeperFault);
+        assert!(rt;
+            folder
+                .keeper
+                .load(alloc)
+                .ok()
+                .is_some_and(|kept| kept.is_none())
+        );
+    }
+    let mut folder = empty_folder(alloc, RowKernel::new(lane_parity), 2)?;
+    assert!(rt;
+        called_with(alloc, &mut folder, INIT, b"", &[], &[1])?.end == ClientEnd::OutputFault
+    );
+    assert!(rt;
+        says(
+            alloc,
+            &mut folder,
+            "latest",
+            b"",
+            b"lead 0 follow 0 seen 0\n"
+        )?
+    );
     Ok(())
 }
 
@@ -115,8 +265,8 @@ fn an_input_that_fails_changes_nothing(rt: HostRuntime) -> Result<(), Fail> {
 fn an_output_that_fails_leaves_the_post_done(rt: HostRuntime) -> Result<(), Fail> {
     let alloc = rt.alloc();
     let mut folder = begun(alloc, RowKernel::new(lane_parity), &[])?;
-    let came = post_with(alloc, &mut folder, &[], &[1])?;
-    assert!(rt; came.end == ClientEnd::OutputFault && came.end.status() == 7);
+    let came = called_with(alloc, &mut folder, "post 7", b"alpha", &[], &[1])?;
+    assert!(rt; came.end.status() == 7 && came.out.bytes().is_empty());
     assert!(rt; says(alloc, &mut folder, "search alpha", b"", b"version 1: 7\n")?);
     Ok(())
 }

@@ -86,9 +86,21 @@ pub fn words_of(alloc: Global, line: &str) -> Result<Vec<String>, AllocError> {
 
 /// A call on a folder, with a text as its input.
 pub fn called(alloc: Global, folder: &mut Folder, line: &str, text: &[u8]) -> Result<Came, Fail> {
+    called_with(alloc, folder, line, text, &[], &[])
+}
+
+/// The same over an input and an output whose listed calls are to fail.
+pub fn called_with(
+    alloc: Global,
+    folder: &mut Folder,
+    line: &str,
+    text: &[u8],
+    source: &[u64],
+    sink: &[u64],
+) -> Result<Came, Fail> {
     let words = words_of(alloc, line)?;
-    let mut input = VecSource::new(text.to_vec(alloc)?, Vec::new(alloc));
-    let mut out = VecSink::new(alloc, 1000, Vec::new(alloc))?;
+    let mut input = VecSource::new(text.to_vec(alloc)?, source.to_vec(alloc)?);
+    let mut out = VecSink::new(alloc, 1000, sink.to_vec(alloc)?)?;
     let end = client_run(
         alloc,
         &words,

@@ -1,4 +1,4 @@
-use Rattle.std.proofs.Common.{rules, arith, refl}
+use Rattle.std.proofs.Common.{arith, refl}
 use Rattle.dory_member.specs.Course.{request_of}
 use Rattle.dory_client.specs.Way.{links}
 use Rattle.dory_client.proofs.Drives.{breaks, falls, goes_further, not_yet, puts, stops}

@@ -1,5 +1,5 @@
 use Rattle.dory_client.specs.Scene.{scene}
-use Rattle.dory_client.proofs.Finish.{asks_nothing, driven_first, finishes, kept_first}
+use Rattle.dory_client.proofs.Finish.{driven_first, finishes, kept_first}
 use Rattle.dory_client.proofs.go.run_member.Goals as goal
 
 pub returns-clause-goes : goal.returns-clause-goes

@@ -1,5 +1,6 @@
 use Rattle.std.proofs.Common.{length, ◌-◌, ◌≤◌}
-use Rattle.dory_client.specs.Input.{text_limit, Came}
+use Rattle.dory_io.specs.Bytes.{Came}
+use Rattle.dory_client.specs.Input.{text_limit}
 use Rattle.dory_client.proofs.input.read_text.Given as goal
 
 -- the text is what came since the call began

@@ -1,4 +1,4 @@
-use Rattle.std.proofs.Common.{ap, map, refl, string_bytes, None, Some}
+use Rattle.std.proofs.Common.{map, refl, string_bytes, None, Some}
 use Rattle.dory_cli.specs.Line.{line_of}
 use Rattle.dory_state.specs.Reading.{state_of}
 use Rattle.dory_client.specs.Run.{Loaded}

@@ -1,0 +1,234 @@
+-- What comes from a told domain confirms what was asked, or is a refusal.
+use Rattle.std.proofs.Common.{◌≡◌, ℕ, ◌≤◌, Bool, true, cond, List, Option, None, Some, Result, Ok, Err, refl, ap, sym, ◌∙◌, subst, inl, inr, arith}
+use Rattle.std.specs.Prelude.{⊤, ◌==◌, ◌&&◌}
+use Rattle.std.proofs.lemmas.Bool.Decides.{nat_tests}
+use Rattle.dory_base.specs.declared.ids.AskId.{AskId}
+use Rattle.dory_base.specs.declared.ids.Side.{Side}
+use Rattle.dory_base.specs.declared.ids.Side.TheVariants as side
+use Rattle.dory_base.specs.declared.ids.UpdateId.{UpdateId}
+use Rattle.dory_base.specs.declared.plan.Plan.{Plan}
+use Rattle.dory_base.specs.declared.plan.Plan.TheVariants.{Again, Fresh}
+use Rattle.dory_base.specs.declared.plan.StagePlan.{StagePlan}
+use Rattle.dory_base.specs.declared.plan.StagePlan.TheVariants.{New, Same, Done}
+use Rattle.dory_base.specs.declared.refusal.Refusal.{Refusal}
+use Rattle.dory_base.specs.declared.refusal.Refusal.TheVariants.{NoMemory}
+use Rattle.dory_base.specs.Log.{Log, look_follow, look_order, look_stage, same_id, which}
+use Rattle.dory_base.specs.Step.{State, log_of}
+use Rattle.dory_base.proofs.LogLaws.{follow_seen}
+use Rattle.dory_base.proofs.SameLaws.{same_id_refl}
+use Rattle.dory_wire.specs.declared.fault.WireFault.{WireFault}
+use Rattle.dory_wire.specs.declared.message.Reply.{Reply}
+use Rattle.dory_wire.specs.declared.message.Request.{Request}
+use Rattle.dory_wire.specs.declared.message.Want.{Want}
+use Rattle.dory_wire.specs.declared.message.Want.TheVariants as want
+use Rattle.dory_wire.specs.declared.message.What.{What}
+use Rattle.dory_wire.specs.declared.message.What.TheVariants.{Committed, Refused}
+use Rattle.dory_wire.specs.Frame.{message_in}
+use Rattle.dory_wire.specs.Reading.{if_read, reply_in, reply_of, reply_or_none}
+use Rattle.dory_wire.specs.Spelling.{IsWant}
+use Rattle.dory_wire.specs.StepReply.{Steps, commit_answer, stage_answer, which_answer}
+use Rattle.dory_link.specs.Told.{AnswersTo, Heard, IsAnswer, Told}
+use Rattle.dory_verify.specs.declared.fault.CheckFault.TheVariants as check
+use Rattle.dory_verify.specs.Checks.{echo, same_ask}
+use Rattle.dory_member.specs.declared.outcome.Fault.{Fault}
+use Rattle.dory_member.specs.declared.outcome.Fault.TheVariants as fault
+use Rattle.dory_member.specs.declared.outcome.Mark.{Mark}
+use Rattle.dory_member.specs.declared.phase.Single.{Single}
+use Rattle.dory_member.specs.declared.phase.Single.TheVariants as single
+use Rattle.dory_member.specs.declared.phase.UpdateStep.{UpdateStep}
+use Rattle.dory_member.specs.declared.phase.UpdateStep.TheVariants.{StageFollow, StageLead, OrderLead, FollowOn, WhichOther, FollowOther}
+use Rattle.dory_member.specs.declared.phase.Run.{Run}
+use Rattle.dory_member.specs.Course.{name, request_of, single_of, to, want_of}
+use Rattle.dory_member.specs.Single.{◌>>=◌, checked, confirmed, form, formed, framed, is_answer, mark, refused, said, wanted}
+use Rattle.dory_base.specs.declared.entry.Entry.{Entry}
+use Rattle.dory_client.specs.Asked.{Replies}
+use Rattle.dory_client.specs.Complete.{TellsFolder}
+use Rattle.dory_client.specs.Way.{AskOver, Links}
+use Rattle.dory_client.proofs.Committed.{follower}
+use Rattle.dory_client.proofs.Replied.{grown_told}
+
+-- ---- a reply whose kind is allowed is heard as what it says
+
+read_is : (read : Result Reply WireFault) (r : Reply) → if_read read ≡ Some r → read ≡ Ok r
+read_is (Ok x) r e = cc
+read_is (Err x) r e = absurd (cc)
+
+framed_is : (s : Side) (ask : Single) (m : Option (List ℕ)) (r : Reply) → reply_or_none m ≡ Some r → is_answer ask r.what ≡ true → framed s ask m ≡ Ok r
+framed_is s ask None r e allowed = absurd (cc)
+framed_is s ask (Some message) r e allowed =
+    ap (formed s ask) (read_is (reply_of message) r e) ∙ ap (λ (b : Bool). cond b (Ok r) (Err (check.Form s 4))) allowed
+
+same_number : (n : ℕ) → (n == n) ≡ true
+same_number n = grind (arith, nat_tests)
+
+echo_is : (s : Side) (ask : AskId) (what : What) → echo s ask (record { ask = ask; what = what }) ≡ Ok tt
+echo_is s ask what =
+    let same : same_ask ask ask ≡ true = (λ i. (same_number ask.member.0 i && same_number ask.serial i) && same_number ask.step i) in
+    ap (λ (b : Bool). cond b (Ok tt) (Err (check.Echo s ask ask))) same
+
+bind_is : {A B : Type 0} (r : Result A Fault) (x : A) (f : A → Result B Fault) (z : Result B Fault) → r ≡ Ok x → f x ≡ z → (r >>= f) ≡ z
+bind_is r x f z e h = ap (λ v. v >>= f) e ∙ h
+
+heard_as : (s : Side) (ask : Single) (asked : AskId) (frame : List ℕ) (what : What) → reply_in frame ≡ Some (record { ask = asked; what = what }) → is_answer ask what ≡ true → confirmed s ask asked frame ≡ said s ask what
+unfolding confirmed
+heard_as s ask asked frame what e allowed =
+    bind_is (checked (form s ask frame)) (record { ask = asked; what = what }) _ _ (ap checked (framed_is s ask (message_in frame) (record { ask = asked; what = what }) e allowed))
+    (bind_is (checked (echo s asked (record { ask = asked; what = what }))) tt _ _ (ap checked (echo_is s asked what)) refl)
+
+-- ---- what a told domain says
+
+wanted_same : (s : Side) (m : Mark) → wanted s m m ≡ Ok m
+wanted_same s m =
+    let same : ((m.number == m.number) && same_id m.id m.id) ≡ true = (λ i. same_number m.number i && same_id_refl m.id i) in
+    ap (λ (b : Bool). cond b (Ok m) (Err (fault.Unconfirmed s m m))) same
+
+-- it confirms what was asked, or refuses
+pub data Says (s : Side) (ask : Single) (what : What) : Type 0 where
+  Confirms : (m : Mark) → is_answer ask what ≡ true → said s ask what ≡ Ok m → Says s ask what
+  Refuses : (code : Refusal) → what ≡ Refused code → Says s ask what
+
+stages : (s : Side) (id : UpdateId) (r : Result StagePlan Refusal) → Says s (single.Stage id) (stage_answer id r)
+stages s id (Ok New) = Confirms (mark 0 id) refl (wanted_same s (mark 0 id))
+stages s id (Ok Same) = Confirms (mark 0 id) refl (wanted_same s (mark 0 id))
+stages s id (Ok (Done number)) = Confirms (mark number id) refl (wanted_same s (mark number id))
+stages s id (Err code) = Refuses code refl
+
+orders : (s : Side) (id : UpdateId) (r : Result Plan Refusal) → Says s (single.Order id) (commit_answer id r)
+orders s id (Ok (Fresh number)) = Confirms (mark number id) refl (wanted_same s (mark number id))
+orders s id (Ok (Again number)) = Confirms (mark number id) refl (wanted_same s (mark number id))
+orders s id (Err code) = Refuses code refl
+
+follows_at : (s : Side) (number n : ℕ) (id : UpdateId) → number ≡ n → Says s (single.Follow number id) (Committed n id)
+follows_at s number n id same = subst (λ (k : ℕ). Says s (single.Follow number id) (Committed k id)) same (Confirms (mark number id) refl (wanted_same s (mark number id)))
+
+follows : (s : Side) (log : Log) (number : ℕ) (id : UpdateId) (r : Result Plan Refusal) → 1 ≤ number → look_follow log number id ≡ r → Says s (single.Follow number id) (commit_answer id r)
+follows s log number id (Ok (Fresh n)) some e = follows_at s number n id (follow_seen log number n id e).1
+follows s log number id (Ok (Again n)) some e = follows_at s number n id (follower log.role log number n id some e).1
+follows s log number id (Err code) some e = Refuses code refl
+
+tells_which : (s : Side) (number : ℕ) (r : Result UpdateId Refusal) → Says s (single.Which number) (which_answer number r)
+tells_which s number (Ok id) = Confirms (mark number id) refl (wanted_same s (mark number id))
+tells_which s number (Err code) = Refuses code refl
+
+-- a number that is followed counts from 1
+abbrev pub IsCounted : Want → Type 0
+IsCounted want.Latest = ⊤
+IsCounted (want.Search number asked keys) = ⊤
+IsCounted (want.Which number) = ⊤
+IsCounted (want.Stage e) = ⊤
+IsCounted (want.Order id) = ⊤
+IsCounted (want.Follow number id) = 1 ≤ number
+
+says_as : (s : Side) (ask : Single) (what answer : What) → what ≡ answer → Says s ask answer → Says s ask what
+says_as s ask what answer e says = subst (Says s ask) (sym e) says
+
+-- what a step of an update is answered
+steps_say : (s : Side) (e : Entry) (at : UpdateStep) (st next : State) (what : What) → IsCounted (want_of e (single_of e.id at)) → Steps st (want_of e (single_of e.id at)) what next → Says s (single_of e.id at) what
+steps_say s e at st next what counted (inr out) = Refuses NoMemory out.answer
+steps_say s e StageFollow st next what counted (inl step) = says_as s (single.Stage e.id) what _ step.answer (stages s e.id (look_stage (log_of st) e))
+steps_say s e StageLead st next what counted (inl step) = says_as s (single.Stage e.id) what _ step.answer (stages s e.id (look_stage (log_of st) e))
+steps_say s e OrderLead st next what counted (inl step) = says_as s (single.Order e.id) what _ step.answer (orders s e.id (look_order (log_of st) e.id))
+steps_say s e (FollowOn number repaired) st next what counted (inl step) =
+    says_as s (single.Follow number e.id) what _ step.answer (follows s (log_of st) number e.id (look_follow (log_of st) number e.id) counted refl)
+steps_say s e (WhichOther number at) st next what counted (inl step) = says_as s (single.Which at) what _ step.answer (tells_which s at (which (log_of st) at))
+steps_say s e (FollowOther number at id) st next what counted (inl step) =
+    says_as s (single.Follow at id) what _ step.answer (follows s (log_of st) at id (look_follow (log_of st) at id) counted refl)
+
+-- ---- over links that tell a folder
+
+-- both links tell a folder under this number
+pub record Tells (folder : ℕ) (m : Links) : Type 0 where
+  pub lead : Told
+  pub follow : Told
+  pub by_lead : TellsFolder m.lead.folders folder lead
+  pub by_follow : TellsFolder m.follow.folders folder follow
+
+-- they go on to tell it
+pub still : (s : Side) (folder : ℕ) (m z : Links) (r : Request) (frame : List ℕ) → Tells folder m → AskOver s m z r frame → Tells folder z
+still side.Lead folder m z r frame t (ask, same) =
+    let x = grown_told m.lead.folders z.lead.folders folder t.lead t.by_lead ask.grown in
+    record { lead = x.0; follow = t.follow; by_lead = x.1; by_follow = subst (λ (h : Heard). TellsFolder h.folders folder t.follow) (sym same) t.by_follow }
+still side.Follow folder m z r frame t (same, ask) =
+    let x = grown_told m.follow.folders z.follow.folders folder t.follow t.by_follow ask.grown in
+    record { lead = t.lead; follow = x.0; by_lead = subst (λ (h : Heard). TellsFolder h.folders folder t.lead) (sym same) t.by_lead; by_follow = x.1 }
+
+-- a reply to a request, and between which tellings of the folder it was given
+pub record Replied (r : Request) (frame : List ℕ) : Type 0 where
+  pub before : Told
+  pub now : Told
+  pub what : What
+  pub replied : reply_in frame ≡ Some (record { ask = r.ask; what = what })
+  pub answers : AnswersTo before now r.want what
+  pub counted : IsCounted r.want
+
+counted_of : (w : Want) → IsWant w → IsCounted w
+counted_of want.Latest is = tt
+counted_of (want.Search number asked keys) is = tt
+counted_of (want.Which number) is = tt
+counted_of (want.Stage e) is = tt
+counted_of (want.Order id) is = tt
+counted_of (want.Follow number id) is = is.0.some
+
+by_folder : (x y : Option Told) (a b : Told) (r : Request) (frame : List ℕ) (what : What) → x ≡ Some a → y ≡ Some b → reply_in frame ≡ Some (record { ask = r.ask; what = what }) → IsAnswer x y r.want what → IsWant r.want → Replied r frame
+by_folder x y a b r frame what is js replied by range = record {
+  before = a;
+  now = b;
+  what = what;
+  replied = replied;
+  answers = subst (λ (o : Option Told). IsAnswer (Some a) o r.want what) js (subst (λ (o : Option Told). IsAnswer o y r.want what) is by);
+  counted = counted_of r.want range;
+}
+
+replied_by : (before now : Option (ℕ → Option Told)) (x y : Told) (r : Request) (frame : List ℕ) → TellsFolder before r.folder.0 x → TellsFolder now r.folder.0 y → Replies before now r frame → IsWant r.want → Replied r frame
+replied_by None now x y r frame told told' replies range = absurd told
+replied_by (Some before) None x y r frame told told' replies range = absurd replies
+replied_by (Some before) (Some now) x y r frame told told' (what, replied, by) range = by_folder (before r.folder.0) (now r.folder.0) x y r frame what told told' replied by range
+
+over_told : (s : Side) (m z : Links) (r : Request) (frame : List ℕ) → Tells r.folder.0 m → AskOver s m z r frame → Replied r frame
+over_told side.Lead m z r frame t (ask, same) =
+    let x = grown_told m.lead.folders z.lead.folders r.folder.0 t.lead t.by_lead ask.grown in
+    replied_by m.lead.folders z.lead.folders t.lead x.0 r frame t.by_lead x.1 ask.replies ask.in_range.want
+over_told side.Follow m z r frame t (same, ask) =
+    let x = grown_told m.follow.folders z.follow.folders r.folder.0 t.follow t.by_follow ask.grown in
+    replied_by m.follow.folders z.follow.folders t.follow x.0 r frame t.by_follow x.1 ask.replies ask.in_range.want
+
+-- what came to a step of an update
+says_at : (s : Side) (e : Entry) (at : UpdateStep) (x y : Told) (what : What) → IsCounted (want_of e (single_of e.id at)) → AnswersTo x y (want_of e (single_of e.id at)) what → Says s (single_of e.id at) what
+says_at s e StageFollow x y what counted (st, next, is) = steps_say s e StageFollow st next what counted is.steps
+says_at s e StageLead x y what counted (st, next, is) = steps_say s e StageLead st next what counted is.steps
+says_at s e OrderLead x y what counted (st, next, is) = steps_say s e OrderLead st next what counted is.steps
+says_at s e (FollowOn number repaired) x y what counted (st, next, is) = steps_say s e (FollowOn number repaired) st next what counted is.steps
+says_at s e (WhichOther number at) x y what counted (st, next, is) = steps_say s e (WhichOther number at) st next what counted is.steps
+says_at s e (FollowOther number at id) x y what counted (st, next, is) = steps_say s e (FollowOther number at id) st next what counted is.steps
+
+-- ---- what a step of an update comes to
+
+-- a mark, or the fault of a refusal
+pub data Comes (s : Side) (ask : Single) (r : Result Mark Fault) : Type 0 where
+  ToMark : (m : Mark) → r ≡ Ok m → Comes s ask r
+  ToRefusal : (code : Refusal) → r ≡ Err (refused s ask code) → Comes s ask r
+
+allowed_refusal : (ask : Single) (code : Refusal) → is_answer ask (Refused code) ≡ true
+allowed_refusal (single.Which number) code = refl
+allowed_refusal (single.Stage id) code = refl
+allowed_refusal (single.Order id) code = refl
+allowed_refusal (single.Follow number id) code = refl
+
+said_refusal : (s : Side) (ask : Single) (code : Refusal) → said s ask (Refused code) ≡ Err (refused s ask code)
+said_refusal s (single.Which number) code = refl
+said_refusal s (single.Stage id) code = refl
+said_refusal s (single.Order id) code = refl
+said_refusal s (single.Follow number id) code = refl
+
+heard_by : (s : Side) (ask : Single) (asked : AskId) (frame : List ℕ) (what : What) → reply_in frame ≡ Some (record { ask = asked; what = what }) → Says s ask what → Comes s ask (confirmed s ask asked frame)
+heard_by s ask asked frame what replied (Confirms m allowed says) = ToMark m (heard_as s ask asked frame what replied allowed ∙ says)
+heard_by s ask asked frame what replied (Refuses code is) =
+    let came : reply_in frame ≡ Some (record { ask = asked; what = Refused code }) = replied ∙ ap (λ (w : What). Some (record { ask = asked; what = w })) is in
+    ToRefusal code (heard_as s ask asked frame (Refused code) came (allowed_refusal ask code) ∙ said_refusal s ask code)
+
+-- what a told domain's reply to a step of an update comes to
+pub confirms : (s : Side) (run : Run) (e : Entry) (at : UpdateStep) (m z : Links) (frame : List ℕ) → Tells run.kept.folder.0 m → AskOver s m z (request_of run (to s (want_of e (single_of e.id at)))) frame
+    → Comes s (single_of e.id at) (confirmed s (single_of e.id at) (name run run.step) frame)
+confirms s run e at m z frame t over =
+    let r = over_told s m z (request_of run (to s (want_of e (single_of e.id at)))) frame t over in
+    heard_by s (single_of e.id at) (name run run.step) frame r.what r.replied (says_at s e at r.before r.now r.what r.counted r.answers)
