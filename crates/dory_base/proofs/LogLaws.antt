@@ -18,7 +18,7 @@ use Rattle.dory_base.specs.declared.plan.Plan.TheVariants.{Again, Fresh}
 use Rattle.dory_base.specs.declared.refusal.Refusal.{Refusal}
 use Rattle.dory_base.specs.declared.refusal.Refusal.TheVariants.{ShapeWrong, BadMember, Past, Clash, Unfinished, Taken, Gap, HistoryFull}
 use Rattle.dory_base.specs.Log.{Log, empty_log, same_id, number_of, last_of, at_place, staged_by, with_id, staged_as, has_shape, stage_again, stage_busy, stage_beside, stage_known, look_stage, order_staged, order_known, order_as, look_order, follow_staged, follow_known, follow_again, follow_as, look_follow}
-use Rattle.dory_base.specs.Step.{Event, Staged, Appended, log_staged, log_appended, log_after, event_of_stage, event_of_plan, IsSerial, IsId, IsAbove, IsPlace, IsLog}
+use Rattle.dory_base.specs.Step.{Event, Staged, Appended, log_staged, log_appended, log_after, event_of_stage, event_of_plan, IsSerial, IsMembersId, IsAbove, IsPlace, IsLog}
 use Rattle.dory_base.proofs.SameLaws.{same_id-true}
 use Rattle.dory_base.proofs.IdLaws.{last_snoc, rises_snoc, number_above, last_unknown, ids_distinct}
 
@@ -268,7 +268,7 @@ committed_is_log log id e good h room =
     let p = above_of log id e good h in
     record {
       few = omega (arith, length-append log.ids (id ∷ []), room);
-      ids = all_snoc IsId log.ids id good.ids (record { member = omega (arith, place_within log.staged id.member.0 e p.0, good.places); serial = p.2.serial });
+      ids = all_snoc IsMembersId log.ids id good.ids (record { member = omega (arith, place_within log.staged id.member.0 e p.0, good.places); serial = p.2.serial });
       rising = λ m. rises_snoc log.ids id m 0 (good.rising m) (λ same. subst (λ (m : ℕ). last_of log.ids m < id.serial) same p.2.above);
       places = length-set log.staged id.member.0 None ∙ good.places;
       above = above_appended log id e good p.0;

@@ -1,5 +1,5 @@
 -- The two numbers of a shape.
-use Rattle.std.specs.Prelude.{ℕ, ◌≤◌, ◌==◌, ◌&&◌, Bool}
+use Rattle.std.specs.Prelude.{ℕ, ◌≤◌, ◌==◌, ◌&&◌, ◌^◌, Bool}
 
 -- the depth of the tree over a row's columns, and how many positions a word has
 pub record Dims : Type 0 where
@@ -12,6 +12,10 @@ pub record IsDims (d : Dims) : Type 0 where
   pub high : d.depth ≤ 11
   pub some : 1 ≤ d.probes
   pub few : d.probes ≤ 8
+
+-- how many columns a row of this shape has
+abbrev pub columns_of : Dims → ℕ
+columns_of shape = 2 ^ shape.depth
 
 -- two shapes are one
 abbrev pub same_shape : Dims → Dims → Bool

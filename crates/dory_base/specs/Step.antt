@@ -103,7 +103,7 @@ pub record IsSerial (serial : ℕ) : Type 0 where
   pub few : serial < 2 ^ 64
 
 -- the id of an update of one of the 64 members
-pub record IsId (id : UpdateId) : Type 0 where
+pub record IsMembersId (id : UpdateId) : Type 0 where
   pub member : id.member.0 ≤ 63
   pub serial : IsSerial id.serial
 
@@ -126,7 +126,7 @@ IsPlace ids member (Some e) = IsAbove ids member e.id
 -- what is true of every log
 pub record IsLog (log : Log) : Type 0 where
   pub few : length log.ids ≤ 1048576
-  pub ids : AllByRecursion IsId log.ids
+  pub ids : AllByRecursion IsMembersId log.ids
   pub rising : (member : ℕ) → rises 0 log.ids member ≡ true
   pub places : length log.staged ≡ 64
   pub above : (member : ℕ) → IsPlace log.ids member (staged_by log.staged member)

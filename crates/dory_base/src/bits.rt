@@ -3,7 +3,7 @@ ghost use Rattle.std.specs.Prelude.{◌≡◌, ℕ, Bool, false, ◌+◌, ◌/�
 ghost use Rattle.std.specs.Int.{bit_at};
 ghost use Rattle.std.specs.Simd.Lanes.{zip2};
 ghost use Rattle.dory_base.specs.Packed.{word_bit, bits_of};
-ghost use Rattle.dory_base.specs.Xor.{xor};
+ghost use Rattle.dory_base.specs.Xor.{xor as xor_of};
 
 use crate::NoMemory;
 use std::alloc::Global;
@@ -83,7 +83,7 @@ impl Bits {
     /// XORs another list into this one.
     pub fn xor_with(&mut self, other: &Bits)
         requires { length self.old ≡ length other.now }
-        ensures { self.new ≡ zip2 xor self.old other.now }
+        ensures { self.new ≡ zip2 xor_of self.old other.now }
     {
         xor_words(&mut self.words, &other.words);
     }
@@ -105,6 +105,13 @@ impl Bits {
     {
         Bits { words, len }
     }
+}
+
+/// One of two bits, and not both.
+pub fn xor(a: bool, b: bool) -> bool
+    ensures { result ≡ xor_of a b }
+{
+    if a { !b } else { b }
 }
 
 /// Whether the two words have the same bits.

@@ -14,7 +14,7 @@ mod slot_table;
 mod tag;
 mod word;
 
-pub use bits::Bits;
+pub use bits::{Bits, xor};
 pub use docs::Docs;
 pub use entry::{Change, Entries, Entry, Tags};
 pub use found::{Found, Manifest, Place, Sum, Sums};

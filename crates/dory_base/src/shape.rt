@@ -37,6 +37,14 @@ impl Shape {
         }
     }
 
+    /// The shape of a depth and a number of probes that are in range.
+    pub fn of(depth: u8, probes: u8) -> Shape
+        requires { IsDims (record { depth = depth; probes = probes }) }
+        ensures { result ≡ record { depth = depth; probes = probes } }
+    {
+        Shape { depth, probes }
+    }
+
     pub fn depth(&self) -> u8
         ensures value { result ≡ self.now.depth }
         ensures range { IsDims self.now }

@@ -11,7 +11,7 @@ use Rattle.dory_base.specs.declared.found.Sum.{Sum}
 use Rattle.dory_base.specs.declared.found.Found.{Found}
 use Rattle.dory_base.specs.Sum.{parity, row_of, sum_of}
 use Rattle.dory_base.specs.History.{version_of}
-use Rattle.dory_base.specs.Step.{IsId, State, IsState, ids_of}
+use Rattle.dory_base.specs.Step.{IsMembersId, State, IsState, ids_of}
 use Rattle.dory_base.proofs.StepLaws.{history_is}
 use Rattle.dory_base.specs.Table.{Slots, has_doc, placed, emptied, changed, step, table_of, live_from, live_of, place_of, manifest_of}
 use Rattle.dory_base.specs.TableMeaning.{Kept, IsKept, StandsFor}
@@ -26,7 +26,7 @@ use Rattle.dory_domain.proofs.Lists.{all_more, all_set, all_take}
 -- an update that a manifest's line can name
 record IsCarried (e : Entry) : Type 0 where
   pub named : IsNamed e
-  pub id : IsId e.id
+  pub id : IsMembersId e.id
 
 abbrev CarriedSlot : Option Entry → Type 0
 CarriedSlot None = Unit {0}
@@ -63,7 +63,7 @@ all_lines n (None ∷ slots) h all = all_lines (n + 1) slots (omega arith) all.1
 all_lines n (Some e ∷ slots) h all =
     (record { slot = omega arith; doc = all.0.named; member = omega (arith, all.0.id.member); some = all.0.id.serial.some; serial = all.0.id.serial.few }, all_lines (n + 1) slots (omega arith) all.1)
 
-carried_all : (history : List Entry) → AllByRecursion IsNamed history → AllByRecursion IsId (ids_of history) → AllByRecursion IsCarried history
+carried_all : (history : List Entry) → AllByRecursion IsNamed history → AllByRecursion IsMembersId (ids_of history) → AllByRecursion IsCarried history
 carried_all [] named ids = tt
 carried_all (e ∷ history) named ids = (record { named = named.0; id = ids.0 }, carried_all history named.1 ids.1)
 

@@ -15,21 +15,21 @@ use Rattle.dory_base.specs.declared.plan.Plan.{Plan}
 use Rattle.dory_base.specs.declared.plan.Plan.TheVariants.{Again, Fresh}
 use Rattle.dory_base.specs.SameUpdate.{is_same_update}
 use Rattle.dory_base.specs.Log.{Log, same_id, number_of, last_after, last_of, staged_by, staged_as, has_shape, stage_again, stage_busy, stage_beside, stage_known, look_stage, order_staged, order_known, order_as, look_order, follow_staged, follow_known, follow_again, follow_as, look_follow, which_at, which}
-use Rattle.dory_base.specs.Step.{State, log_of, IsId, IsAbove, IsPlace, IsLog}
+use Rattle.dory_base.specs.Step.{State, log_of, IsMembersId, IsAbove, IsPlace, IsLog}
 use Rattle.dory_base.proofs.IdLaws.{number_there}
 use Rattle.dory_wire.specs.Spelling.{IsNumber, IsWhat, IsId as IsCarried}
 use Rattle.dory_wire.specs.StepReply.{stage_answer, commit_answer, which_answer}
 
 -- the id of one of the 64 members is one that a message can carry
-carried : (id : UpdateId) → IsId id → IsCarried id
+carried : (id : UpdateId) → IsMembersId id → IsCarried id
 carried id is = record { member = omega (arith, is.member); some = is.serial.some; serial = is.serial.few }
 
 above_carried : (ids : List UpdateId) (member : ℕ) (id : UpdateId) → member ≤ 63 → IsAbove ids member id → IsCarried id
 above_carried ids member id low is = record { member = let e = is.own in omega arith; some = is.serial.some; serial = is.serial.few }
 
-got : (xs : List UpdateId) (k : ℕ) (x : UpdateId) → AllByRecursion IsId xs → slice_get xs k ≡ Some x → IsId x × (k < length xs)
+got : (xs : List UpdateId) (k : ℕ) (x : UpdateId) → AllByRecursion IsMembersId xs → slice_get xs k ≡ Some x → IsMembersId x × (k < length xs)
 got [] k x all is = absurd (cc)
-got (y ∷ xs) zero x all is = let e : y ≡ x = cc in (subst IsId e all.0, omega arith)
+got (y ∷ xs) zero x all is = let e : y ≡ x = cc in (subst IsMembersId e all.0, omega arith)
 got (y ∷ xs) (suc k) x all is = let more = got xs k x all.1 is in (more.0, omega (arith, more.1))
 
 -- the number of an id
@@ -68,7 +68,7 @@ stage_numbered : (log : Log) (e : Entry) (o : Option ℕ) → IsLog log → e.id
 stage_numbered log e None is low c few eq = stage_placed log e (staged_by log.staged e.id.member.0) is low c (is.above e.id.member.0) few
 stage_numbered log e (Some n) is low c few eq = (number_range log e.id n is eq, c)
 
-last_few : (ids : List UpdateId) (member serial : ℕ) → AllByRecursion IsId ids → serial < 2 ^ 64 → last_after serial ids member < 2 ^ 64
+last_few : (ids : List UpdateId) (member serial : ℕ) → AllByRecursion IsMembersId ids → serial < 2 ^ 64 → last_after serial ids member < 2 ^ 64
 last_few [] member serial all h = h
 last_few (x ∷ ids) member serial all h = last_few ids member (cond (eqb x.member.0 member) x.serial serial) all.1 (of_either (eqb x.member.0 member))
   where
