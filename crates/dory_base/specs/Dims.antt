@@ -14,8 +14,8 @@ pub record IsDims (d : Dims) : Type 0 where
   pub few : d.probes ≤ 8
 
 -- how many columns a row of this shape has
-abbrev pub columns_of : Dims → ℕ
-columns_of shape = 2 ^ shape.depth
+abbrev pub column_count : Dims → ℕ
+column_count shape = 2 ^ shape.depth
 
 -- two shapes are one
 abbrev pub same_shape : Dims → Dims → Bool
