@@ -38,7 +38,8 @@ small_front bytes small i = ⊎_elim (λ (l : i < 8). rw (get_or-take 8 bytes i 
 small_back : (bytes : List ℕ) → ((i : ℕ) → slice_index bytes i < 256) → (i : ℕ) → slice_index (drop 8 bytes) i < 256
 small_back bytes small i = rw (get_or-drop 8 bytes i 0) (small (8 + i))
 
--- a tag's bytes are those that its number spells
+-- A tag's bytes are those that its number spells. It stands here, and not among the proofs, since the model of a tag
+-- gives its bytes back by it.
 pub tag_bytes-tag_number : (bytes : List ℕ) → IsTagBytes bytes → tag_bytes (tag_number bytes) ≡ bytes
 unfolding tag_number tag_bytes
 tag_bytes-tag_number bytes are =

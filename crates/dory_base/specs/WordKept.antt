@@ -1,4 +1,5 @@
--- A word gives back the array that it is kept in.
+-- A word gives back the array that it is kept in. It stands here, and not among the proofs, since the model of a word
+-- is turned back by it.
 use Rattle.std.specs.Prelude.{ℕ, ◌≡◌, ◌-◌, List, ◌++◌, length, take, replicate}
 use Rattle.std.proofs.Common.{arith, ap, ◌∙◌, length-take}
 use mathlib.Core.Path.{ap₂}
