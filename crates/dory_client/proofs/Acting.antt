@@ -13,10 +13,10 @@ use Rattle.dory_client.specs.Complete.{KeepsState}
 use Rattle.dory_member.specs.declared.phase.Run.{Run}
 use Rattle.dory_client.specs.declared.end.ClientEnd.TheVariants as ends
 use Rattle.dory_client.specs.Command.{NoCommand}
-use Rattle.dory_client.specs.Confirmed.{IsBegun}
-use Rattle.dory_client.specs.Ends.{IsKeeperEnd, end_of}
-use Rattle.dory_client.specs.Goes.{Goes}
-use Rattle.dory_client.specs.Leaves.{IsUndone}
+use Rattle.dory_client.specs.CallEffects.{IsBegun}
+use Rattle.dory_client.specs.Ends.{IsKeeperEnd, fault_end}
+use Rattle.dory_client.specs.CommandEnds.{CommandEnds}
+use Rattle.dory_client.specs.KeptAfter.{IsUndone}
 use Rattle.dory_client.specs.Run.{Acts, NotMade, Refused, NoRoom, Began, ActsIn, Loads, Unloaded, Loaded, StartsIn}
 use Rattle.dory_client.specs.Scene.{Input, IsUntouched, Scene}
 use Rattle.dory_client.proofs.Done.{not_fault, not_keeper, not_made}
@@ -65,11 +65,11 @@ undone_command k t i i' end none done = not_made k t i i' (subst (NoCommand k t 
 
 -- nothing was touched and the call isn't done, or the command began in the state that is kept, and went on
 abbrev pub BeginsOrNot : Todo → List ℕ → Input → Input → Scene → Scene → ClientEnd → Type 0
-BeginsOrNot t seed i i' a z end = (IsUntouched a z × IsUndone end) ⊎ ((k : KeptState) × (r : Run) × IsBegun t seed i i' a k r × Goes r a z end)
+BeginsOrNot t seed i i' a z end = (IsUntouched a z × IsUndone end) ⊎ ((k : KeptState) × (r : Run) × IsBegun t seed i i' a k r × CommandEnds r a z end)
 
 acts_begin : (t : Todo) (bytes seed : List ℕ) (i i' : Input) (a z : Scene) (end : ClientEnd) (k : KeptState) → Tells a.kept (Some bytes) → state_of bytes ≡ Ok k → IsKeptState k → Acts k seed t i i' a z end → BeginsOrNot t seed i i' a z end
 acts_begin t bytes seed i i' a z end k told is range (NotMade none u) = inl (u, undone_command k t i i' end none)
-acts_begin t bytes seed i i' a z end k told is range (Refused text f has e u at) = inl (u, undone_as end (end_of f) at (not_fault f))
+acts_begin t bytes seed i i' a z end k told is range (Refused text f has e u at) = inl (u, undone_as end (fault_end f) at (not_fault f))
 acts_begin t bytes seed i i' a z end k told is range (NoRoom text has u at) = inl (u, undone_memory end at)
 acts_begin t bytes seed i i' a z end k told is range (Began text r has begins goes) =
     inr (k, r, record { bytes = bytes; text = text; is_kept = told; is_state = is; in_range = range; has_text = has; begins = begins }, goes)

@@ -4,22 +4,22 @@ use Rattle.std.proofs.lemmas.List.{append-nil}
 use Rattle.dory_wire.specs.declared.message.Request.{Request}
 use Rattle.dory_wire.specs.Reading.{request_in}
 use Rattle.dory_link.specs.declared.link.LinkError.TheVariants as link
-use Rattle.dory_link.specs.Told.{Told, Talk, talk, Heard, Adds, Answers, IsAsked}
+use Rattle.dory_link.specs.Told.{Told, Talk, talk, Heard, Adds, IsReplyFrame, IsAsked}
 use Rattle.dory_member.specs.Machine.{IsFrameOf}
-use Rattle.dory_client.specs.Asked.{GrewBy, AskedFrames, spoke, Replies, Ask, Unanswered, request_frame}
+use Rattle.dory_client.specs.Asked.{GrewBy, AskedFrames, spoke, HasReply, Exchanged, Unanswered, request_frame}
 
 grew : (old new : Option (List Talk)) (sent frame : List ℕ) (request : Request) → sent ≡ request_frame request → Adds old new sent (Ok frame) → GrewBy old new (spoke request frame ∷ [])
 grew None new sent frame request e added = tt
 grew (Some old) None sent frame request e added = absurd added
 grew (Some old) (Some new) sent frame request e added = added ∙ ap (λ (s : List ℕ). old ++ talk s (Some frame) ∷ []) e
 
-replied : (old new : Option (ℕ → Option Told)) (sent frame : List ℕ) (request : Request) → request_in sent ≡ Some request → Answers old new sent frame → Replies old new request frame
+replied : (old new : Option (ℕ → Option Told)) (sent frame : List ℕ) (request : Request) → request_in sent ≡ Some request → IsReplyFrame old new sent frame → HasReply old new request frame
 replied None new sent frame request e answers = tt
 replied (Some old) None sent frame request e answers = absurd answers
 replied (Some old) (Some new) sent frame request e answers = answers request e
 
 -- an ask by the frame of a request
-pub made : (old new : Heard) (sent frame came : List ℕ) (request : Request) → IsFrameOf request sent → came ≡ frame → IsAsked old new sent (Ok frame) → ((i : ℕ) → get_or came i 0 < 256) → Ask old new request came
+pub made : (old new : Heard) (sent frame came : List ℕ) (request : Request) → IsFrameOf request sent → came ≡ frame → IsAsked old new sent (Ok frame) → ((i : ℕ) → get_or came i 0 < 256) → Exchanged old new request came
 made old new sent frame came request is same asked are_bytes =
     let here : IsAsked old new sent (Ok came) = rw (sym same) at asked in
     record {

@@ -13,7 +13,7 @@ use Rattle.dory_member.specs.declared.phase.Phase.TheVariants.{Updating, Measuri
 use Rattle.dory_member.specs.declared.phase.Run.{Run}
 use Rattle.dory_member.specs.declared.phase.UpdateStep.TheVariants.{StageFollow}
 use Rattle.dory_member.specs.Course.{asking, begun, if_finished, if_serial, posting, refused_if, removing, resumed}
-use Rattle.dory_client.specs.Goes.{IsGood}
+use Rattle.dory_client.specs.CommandEnds.{IsGood}
 use Rattle.dory_member.specs.Draw.{is_last_epoch, is_last_serial, is_used_up, ready, turned}
 
 pub data Kind (k : KeptState) (seed : List ℕ) (c : Command) (run : Run) : Type 0 where

@@ -15,10 +15,10 @@ use Rattle.dory_client.specs.declared.start.Todo.{Todo}
 use Rattle.dory_client.specs.declared.start.Start.{Start}
 use Rattle.dory_client.specs.declared.end.ClientEnd.{ClientEnd}
 use Rattle.dory_client.specs.Command.{HasCommand, NoCommand}
-use Rattle.dory_client.specs.Goes.{Goes, Unsaved, Broken, RanOut, Fell, Unkept, Came, GoesFrom, IsBegun, NotBegun}
-use Rattle.dory_client.specs.Goes as goes
+use Rattle.dory_client.specs.CommandEnds.{CommandEnds, FirstSaveFailed, AskFailed, RanOut, CommandFailed, LastSaveFailed, CommandPrinted, CommandEndsFrom, IsBegun, NotBegun}
+use Rattle.dory_client.specs.CommandEnds as goes
 use Rattle.dory_client.specs.Kept.{KeepsIf, KeepsNow, OldOrNew}
-use Rattle.dory_client.specs.Run.{Acts, NotMade, Refused, NoRoom, Began, ActsIn, MayAct, Begins, Loads, Runs}
+use Rattle.dory_client.specs.Run.{Acts, NotMade, Refused, NoRoom, Began, ActsIn, MayAct, StateBegins, Loads, Runs}
 use Rattle.dory_client.specs.Run as run
 use Rattle.dory_client.specs.Scene.{Input, IsUntouched, Scene, scene}
 use Rattle.dory_client.specs.Start.{start_of}
@@ -51,14 +51,14 @@ tells_from (Some a) (Some b) x same told = sym same ∙ told
 untouched_from : (a b : Told) (lead follow : Heard) (written : Option (List ℕ)) (z : Scene) → Stays a b → IsUntouched (scene b lead follow written) z → IsUntouched (scene a lead follow written) z
 untouched_from a b lead follow written z same u = record { asked = u.asked; kept = stays_twice a b z.kept same u.kept; wrote = u.wrote }
 
-goes_earlier : (r : Run) (a b : Told) (lead follow : Heard) (written : Option (List ℕ)) (z : Scene) (end : ClientEnd) → Stays a b → Goes r (scene b lead follow written) z end → Goes r (scene a lead follow written) z end
-goes_earlier r a b lead follow written z end same (Unsaved asked kept wrote is) = Unsaved asked (either_from a b z.kept r.kept same kept) wrote is
-goes_earlier r a b lead follow written z end same (Broken broke kept wrote) = Broken broke (if_from (saves_first r.phase) a b z.kept r.kept same kept) wrote
+goes_earlier : (r : Run) (a b : Told) (lead follow : Heard) (written : Option (List ℕ)) (z : Scene) (end : ClientEnd) → Stays a b → CommandEnds r (scene b lead follow written) z end → CommandEnds r (scene a lead follow written) z end
+goes_earlier r a b lead follow written z end same (FirstSaveFailed asked kept wrote is) = FirstSaveFailed asked (either_from a b z.kept r.kept same kept) wrote is
+goes_earlier r a b lead follow written z end same (AskFailed broke kept wrote) = AskFailed broke (if_from (saves_first r.phase) a b z.kept r.kept same kept) wrote
 goes_earlier r a b lead follow written z end same (RanOut frames went kept wrote is) = RanOut frames went (if_from (saves_first r.phase) a b z.kept r.kept same kept) wrote is
-goes_earlier r a b lead follow written z end same (Fell frames f went ended kept wrote is) = Fell frames f went ended (if_from (saves_first r.phase) a b z.kept r.kept same kept) wrote is
-goes_earlier r a b lead follow written z end same (Unkept frames o went ended keeps (inl now) wrote is) = Unkept frames o went ended keeps (inl (now_from a b z.kept r.kept same now)) wrote is
-goes_earlier r a b lead follow written z end same (Unkept frames o went ended keeps (inr now) wrote is) = Unkept frames o went ended keeps (inr (now_from a b z.kept (run_after r frames).kept same now)) wrote is
-goes_earlier r a b lead follow written z end same (Came frames o went ended good kept says) = Came frames o went ended good (if_from (saves_first r.phase) a b z.kept (run_after r frames).kept same kept) says
+goes_earlier r a b lead follow written z end same (CommandFailed frames f went ended kept wrote is) = CommandFailed frames f went ended (if_from (saves_first r.phase) a b z.kept r.kept same kept) wrote is
+goes_earlier r a b lead follow written z end same (LastSaveFailed frames o went ended keeps (inl now) wrote is) = LastSaveFailed frames o went ended keeps (inl (now_from a b z.kept r.kept same now)) wrote is
+goes_earlier r a b lead follow written z end same (LastSaveFailed frames o went ended keeps (inr now) wrote is) = LastSaveFailed frames o went ended keeps (inr (now_from a b z.kept (run_after r frames).kept same now)) wrote is
+goes_earlier r a b lead follow written z end same (CommandPrinted frames o went ended good kept says) = CommandPrinted frames o went ended good (if_from (saves_first r.phase) a b z.kept (run_after r frames).kept same kept) says
 
 acts_earlier : (k : KeptState) (seed : List ℕ) (t : Todo) (i i' : Input) (a b : Told) (lead follow : Heard) (written : Option (List ℕ)) (z : Scene) (end : ClientEnd) → Stays a b → Acts k seed t i i' (scene b lead follow written) z end → Acts k seed t i i' (scene a lead follow written) z end
 acts_earlier k seed t i i' a b lead follow written z end same (NotMade none u) = NotMade none (untouched_from a b lead follow written z same u)
@@ -74,7 +74,7 @@ pub may_earlier : (r : Result KeptState StateFault) (seed : List ℕ) (t : Todo)
 may_earlier r seed t i i' a b lead follow written z end same (inl ((unread, u), is)) = inl ((unread, untouched_from a b lead follow written z same u), is)
 may_earlier r seed t i i' a b lead follow written z end same (inr acts) = inr (acts_in_earlier r seed t i i' a b lead follow written z end same acts)
 
-pub begins_earlier : (first : KeptState) (a b c : Told) (written written' : Option (List ℕ)) (end : ClientEnd) → Stays a b → Begins first b c written written' end → Begins first a c written written' end
+pub begins_earlier : (first : KeptState) (a b c : Told) (written written' : Option (List ℕ)) (end : ClientEnd) → Stays a b → StateBegins first b c written written' end → StateBegins first a c written written' end
 begins_earlier first a b c written written' end same (run.Unsaved kept stays is) = run.Unsaved (either_from a b c first same kept) stays is
 begins_earlier first a b c written written' end same (run.Saved kept says) = run.Saved (now_from a b c first same kept) says
 
@@ -83,12 +83,12 @@ begins_earlier first a b c written written' end same (run.Saved kept says) = run
 pub no_command : (r : Result KeptState StateFault) (k : KeptState) (seed : List ℕ) (t : Todo) (i i' : Input) (a : Scene) (end : ClientEnd) → r ≡ Ok k → IsKeptState k → NoCommand k t i i' end → MayAct r seed t i i' a a end
 no_command r k seed t i i' a end is range none = subst (λ (x : Result KeptState StateFault). MayAct x seed t i i' a a end) (sym is) (inr (range, NotMade none (untouched a)))
 
-went_on : (k : KeptState) (seed : List ℕ) (t : Todo) (c : Command) (i i' : Input) (a z : Scene) (end : ClientEnd) → HasCommand k t i i' (Ok c) → GoesFrom k seed c a z end → Acts k seed t i i' a z end
+went_on : (k : KeptState) (seed : List ℕ) (t : Todo) (c : Command) (i i' : Input) (a z : Scene) (end : ClientEnd) → HasCommand k t i i' (Ok c) → CommandEndsFrom k seed c a z end → Acts k seed t i i' a z end
 went_on k seed t c i i' a z end (text, has, is) (NotBegun f e u e') = Refused text f has (ap (begun k seed) (sym is) ∙ e) u e'
 went_on k seed t c i i' a z end (text, has, is) (goes.NoRoom u e) = NoRoom text has u e
 went_on k seed t c i i' a z end (text, has, is) (IsBegun r e goes) = Began text r has (ap (begun k seed) (sym is) ∙ e) goes
 
-pub acts_on : (r : Result KeptState StateFault) (k : KeptState) (seed : List ℕ) (t : Todo) (c : Command) (i i' : Input) (a z : Scene) (end : ClientEnd) → r ≡ Ok k → IsKeptState k → HasCommand k t i i' (Ok c) → GoesFrom k seed c a z end → MayAct r seed t i i' a z end
+pub acts_on : (r : Result KeptState StateFault) (k : KeptState) (seed : List ℕ) (t : Todo) (c : Command) (i i' : Input) (a z : Scene) (end : ClientEnd) → r ≡ Ok k → IsKeptState k → HasCommand k t i i' (Ok c) → CommandEndsFrom k seed c a z end → MayAct r seed t i i' a z end
 acts_on r k seed t c i i' a z end is range has goes = subst (λ (x : Result KeptState StateFault). MayAct x seed t i i' a z end) (sym is) (inr (range, went_on k seed t c i i' a z end has goes))
 
 -- ---- a line that was read

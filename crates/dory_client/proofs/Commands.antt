@@ -10,11 +10,11 @@ use Rattle.dory_member.specs.Course.{begun, folder_keys}
 use Rattle.dory_client.specs.declared.start.Todo.TheVariants.{Post}
 use Rattle.dory_client.specs.declared.end.ClientEnd.{ClientEnd}
 use Rattle.dory_client.specs.Command.{HasRow, NoCommand, Refused, NoText, NoRoom}
-use Rattle.dory_client.specs.Ends.{end_of}
+use Rattle.dory_client.specs.Ends.{fault_end}
 use Rattle.dory_client.specs.Scene.{Input}
 
 -- a post that is refused whatever its row is
-pub refused_post : (k : KeptState) (doc : DocId) (i : Input) (f : Fault) → ((seed : List ℕ) (d : DocId) (row : List Bool) → begun k seed (command.Post d row) ≡ Err f) → NoCommand k (Post doc) i i (end_of f)
+pub refused_post : (k : KeptState) (doc : DocId) (i : Input) (f : Fault) → ((seed : List ℕ) (d : DocId) (row : List Bool) → begun k seed (command.Post d row) ≡ Err f) → NoCommand k (Post doc) i i (fault_end f)
 refused_post k doc i f always = Refused f (λ seed. always seed doc (plain_row_of (folder_keys k) k.shape (words_in []))) refl refl
 
 -- a post that has no row

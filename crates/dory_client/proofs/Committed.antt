@@ -14,8 +14,8 @@ use Rattle.dory_wire.specs.declared.message.Request.{Request}
 use Rattle.dory_wire.specs.declared.message.Reply.{Reply}
 use Rattle.dory_wire.specs.Reading.{reply_in}
 use Rattle.dory_wire.specs.StepReply.{Steps, commit_answer}
-use Rattle.dory_link.specs.Told.{Told, AnswersTo, IsAnswer, StepsOnce}
-use Rattle.dory_client.specs.Asked.{Replies}
+use Rattle.dory_link.specs.Told.{Told, IsReplyTo, IsFolderReply, StepsOnce}
+use Rattle.dory_client.specs.Asked.{HasReply}
 use Rattle.std.specs.Prelude.{⊤}
 use Rattle.std.proofs.lemmas.Bool.{ltb-false}
 use Rattle.dory_base.specs.Step.{State, ids_of, log_of, after_maybe, event_of_plan, state_appended}
@@ -29,7 +29,7 @@ use Rattle.dory_base.proofs.IdLaws.{number_there}
 use Rattle.dory_base.proofs.LogLaws.{IsFresh, order_seen, follow_seen, with_id_some}
 use Rattle.dory_base.proofs.SameLaws.{same_id-true}
 use Rattle.dory_base.proofs.StepLaws.{ids_snoc}
-use Rattle.dory_client.specs.Confirmed.{HasAt, ToldAt}
+use Rattle.dory_client.specs.CallEffects.{HasAt, ToldAt}
 
 -- what stands at a place stands there in a longer list
 get_more : {A : Type 0} (xs ys : List A) (i : ℕ) (x : A) → slice_get xs i ≡ Some x → slice_get (xs ++ ys) i ≡ Some x
@@ -168,7 +168,7 @@ steps_has s next (Order id) n i is (inr out) = absurd (let e : Committed n i ≡
 steps_has s next (Follow number id) n i is (inl st) = subst (λ (t : State). HasAt t.history n i) (sym st.now) (follow_has s number id i n (look_follow (log_of s) number id) is refl (sym st.answer))
 steps_has s next (Follow number id) n i is (inr out) = absurd (let e : Committed n i ≡ Refused NoMemory = out.answer in cc)
 
-once : (x y : Told) (want : Want) (what : What) → Commits want → AnswersTo x y want what → StepsOnce x y want what
+once : (x y : Told) (want : Want) (what : What) → Commits want → IsReplyTo x y want what → StepsOnce x y want what
 once x y Latest what is by = absurd is
 once x y (Search number asked keys) what is by = absurd is
 once x y (Which number) what is by = absurd is
@@ -176,7 +176,7 @@ once x y (Stage e) what is by = absurd is
 once x y (Order id) what is by = by
 once x y (Follow number id) what is by = by
 
-folder_has : (before now : Option Told) (want : Want) (what : What) (n : ℕ) (i : UpdateId) → Commits want → what ≡ Committed n i → IsAnswer before now want what → (t : Told) × (now ≡ Some t) × HasAt t.history n i
+folder_has : (before now : Option Told) (want : Want) (what : What) (n : ℕ) (i : UpdateId) → Commits want → what ≡ Committed n i → IsFolderReply before now want what → (t : Told) × (now ≡ Some t) × HasAt t.history n i
 folder_has None now want what n i is e by = absurd (cc)
 folder_has (Some x) None want what n i is e by = absurd by
 folder_has (Some x) (Some y) want what n i is e by =
@@ -189,7 +189,7 @@ same_what : (frame : List ℕ) (r : Reply) (ask : AskId) (w : What) → reply_in
 same_what frame r ask w e i = cc
 
 -- a told domain that confirmed a request to commit has the update at that number
-pub told_has : (before now : Option (ℕ → Option Told)) (request : Request) (frame : List ℕ) (r : Reply) (n : ℕ) (i : UpdateId) → Commits request.want → Replies before now request frame → reply_in frame ≡ Some r → r.what ≡ Committed n i → ToldAt before now request.folder.0 n i
+pub told_has : (before now : Option (ℕ → Option Told)) (request : Request) (frame : List ℕ) (r : Reply) (n : ℕ) (i : UpdateId) → Commits request.want → HasReply before now request frame → reply_in frame ≡ Some r → r.what ≡ Committed n i → ToldAt before now request.folder.0 n i
 told_has None now request frame r n i is replies came says = tt
 told_has (Some before) None request frame r n i is replies came says = absurd replies
 told_has (Some before) (Some now) request frame r n i is (what, replied, by) came says =

@@ -21,11 +21,11 @@ use Rattle.dory_verify.specs.Checks.{first_fault_of}
 use Rattle.dory_state.specs.declared.kept.KeptState.{KeptState}
 use Rattle.dory_state.specs.declared.fault.StateFault.{StateFault}
 use Rattle.dory_member.specs.Course.{folder_keys, lesser}
-use Rattle.dory_client.specs.Sought.{ask_of, asked_of, columns_of, searching, sought_of}
+use Rattle.dory_client.specs.Sought.{ask_of, step_request, sought_columns, searching, sought_of}
 use Rattle.dory_state.specs.Spelling.{IsKeptState}
-use Rattle.dory_client.specs.Asked.{Ask}
+use Rattle.dory_client.specs.Asked.{Exchanged}
 use Rattle.dory_client.proofs.Course.{Lengths, Failed}
-use Rattle.dory_client.specs.Complete.{TellsFolder, TellsSeen, Agree, IsRefusal}
+use Rattle.dory_client.specs.Complete.{TellsFolder, TellsSeen, Agree, IsDomainRefusal}
 use Rattle.dory_client.proofs.Replied.{longer, same_version, grown_told, replied_by}
 use Rattle.dory_verify.specs.Honest.{found_by, reply}
 use Rattle.dory_verify.proofs.Passing.{lengths_pass, lead_refused, follow_refused, both_honest}
@@ -44,10 +44,10 @@ ok_state state = Ok state
 -- ---- the lengths
 
 -- what came to an ask for the length, and that it isn't older than what was seen
-length_told : (lead lead' : Heard) (state : KeptState) (step : ℕ) (frame : List ℕ) (x y : Told) → TellsFolder lead.folders state.folder.0 x → TellsFolder lead'.folders state.folder.0 y → state.seen ≤ length x.history → Ask lead lead' (asked_of state step Latest) frame
+length_told : (lead lead' : Heard) (state : KeptState) (step : ℕ) (frame : List ℕ) (x y : Told) → TellsFolder lead.folders state.folder.0 x → TellsFolder lead'.folders state.folder.0 y → state.seen ≤ length x.history → Exchanged lead lead' (step_request state step Latest) frame
     → (n : ℕ) × (reply_in frame ≡ Some (reply (ask_of state step) (At n))) × (state.seen ≤ n)
 length_told lead lead' state step frame x y told told' seen ask =
-    let r = replied_by lead.folders lead'.folders x y (asked_of state step Latest) frame tt told told' ask.replies in
+    let r = replied_by lead.folders lead'.folders x y (step_request state step Latest) frame tt told told' ask.replies in
     let what_is : r.what ≡ At (length r.history) = r.at.value in (
       length r.history,
       r.replied ∙ ap (λ (w : What). Some (reply (ask_of state step) w)) what_is,
@@ -94,8 +94,8 @@ searched asked shape retained history number keys w is = by (same_shape asked sh
     by true same e = inner (nat_le (oldest_of retained (length history)) number && nat_le number (length history)) refl (one_shape asked shape same) e
     by false same e = refused asked shape history number keys w (ShapeWrong shape.depth shape.probes) e
 
-is_refusal : (f g : CheckFault) (r : Result (Found × Found) CheckFault) → r ≡ Err f → r ≡ Err g → IsRefusal g → IsRefusal f
-is_refusal f g r e i h = let same : g ≡ f = cc in subst IsRefusal same h
+is_refusal : (f g : CheckFault) (r : Result (Found × Found) CheckFault) → r ≡ Err f → r ≡ Err g → IsDomainRefusal g → IsDomainRefusal f
+is_refusal f g r e i h = let same : g ≡ f = cc in subst IsDomainRefusal same h
 
 -- sealed entries, of which the first are taken
 sealed_taken : (state : KeptState) (n : ℕ) (entries : List Entry) → AllByRecursion (IsSealed (folder_keys state)) entries → AllByRecursion (IsSealed (folder_keys state)) (version_of n entries)
@@ -116,11 +116,11 @@ pub record Faulty (state : KeptState) (seed word : List ℕ) (s t : Dims) (a b y
   pub agree : Agree y z
   pub sealed : AllByRecursion (IsSealed (folder_keys state)) y
   pub fresh : state.seen ≤ number
-  pub faulty : first_fault_of (folder_keys state) (columns_of state word) number state.seen (ask_of state 2) (ask_of state 3) lead follow ≡ Err f
+  pub faulty : first_fault_of (folder_keys state) (sought_columns state word) number state.seen (ask_of state 2) (ask_of state 3) lead follow ≡ Err f
 
 -- two domains that found, found without a fault
 both_found : (state : KeptState) (seed word : List ℕ) (s t : Dims) (a b y z : List Entry) (number : ℕ) (lead follow : List ℕ) (g h : Found) (f : CheckFault) → Faulty state seed word s t a b y z number lead follow (Finds g) (Finds h) f
-    → (both : Found × Found) × (first_fault_of (folder_keys state) (columns_of state word) number state.seen (ask_of state 2) (ask_of state 3) lead follow ≡ Ok both)
+    → (both : Found × Found) × (first_fault_of (folder_keys state) (sought_columns state word) number state.seen (ask_of state 2) (ask_of state 3) lead follow ≡ Ok both)
 both_found state seed word s t a b y z number lead follow g h f c =
     let sought = sought_of state seed word in
     let few : number ≤ length y = omega (arith, c.by_lead.1, longer a y c.lead_ends) in
@@ -133,14 +133,14 @@ both_found state seed word s t a b y z number lead follow g h f c =
     let g_is : g ≡ found_by a number (map shares_of sought.lead) = c.by_lead.2 ∙ found_same a number sought.lead in
     let h_is : h ≡ found_by b number (map shares_of sought.follow) = c.by_follow.2 ∙ found_same b number sought.follow in (
       (found_by a number (map shares_of sought.lead), found_by b number (map shares_of sought.follow)),
-      both_honest (folder_keys state) state.shape a b number state.seen (ask_of state 2) (ask_of state 3) word (columns_of state word) (map shares_of sought.lead) (map shares_of sought.follow) lead follow
+      both_honest (folder_keys state) state.shape a b number state.seen (ask_of state 2) (ask_of state 3) word (sought_columns state word) (map shares_of sought.lead) (map shares_of sought.follow) lead follow
           (is_search state seed word a number c.kept is sealed) versions c.fresh
           (c.in_lead ∙ ap (λ (v : Found). Some (reply (ask_of state 2) (Finds v))) g_is)
           (c.in_follow ∙ ap (λ (v : Found). Some (reply (ask_of state 3) (Finds v))) h_is),
     )
 
 -- its fault is a refusal
-only_refusals : (state : KeptState) (seed word : List ℕ) (s t : Dims) (a b y z : List Entry) (number : ℕ) (lead follow : List ℕ) (w w' : What) (f : CheckFault) → Faulty state seed word s t a b y z number lead follow w w' f → IsRefusal f
+only_refusals : (state : KeptState) (seed word : List ℕ) (s t : Dims) (a b y z : List Entry) (number : ℕ) (lead follow : List ℕ) (w w' : What) (f : CheckFault) → Faulty state seed word s t a b y z number lead follow w w' f → IsDomainRefusal f
 only_refusals state seed word s t a b y z number lead follow (At k) w' f c = absurd c.by_lead
 only_refusals state seed word s t a b y z number lead follow (Id m name) w' f c = absurd c.by_lead
 only_refusals state seed word s t a b y z number lead follow (Staged name) w' f c = absurd c.by_lead
@@ -150,15 +150,15 @@ only_refusals state seed word s t a b y z number lead follow (Refused code) (Id 
 only_refusals state seed word s t a b y z number lead follow (Refused code) (Staged name) f c = absurd c.by_follow
 only_refusals state seed word s t a b y z number lead follow (Refused code) (Committed m name) f c = absurd c.by_follow
 only_refusals state seed word s t a b y z number lead follow (Refused code) (Finds g) f c =
-    is_refusal f (fault.Refused Lead code) _ c.faulty (lead_refused (folder_keys state) (columns_of state word) number state.seen (ask_of state 2) (ask_of state 3) lead follow code (Finds g) c.in_lead c.in_follow refl) tt
+    is_refusal f (fault.Refused Lead code) _ c.faulty (lead_refused (folder_keys state) (sought_columns state word) number state.seen (ask_of state 2) (ask_of state 3) lead follow code (Finds g) c.in_lead c.in_follow refl) tt
 only_refusals state seed word s t a b y z number lead follow (Refused code) (Refused other) f c =
-    is_refusal f (fault.Refused Lead code) _ c.faulty (lead_refused (folder_keys state) (columns_of state word) number state.seen (ask_of state 2) (ask_of state 3) lead follow code (Refused other) c.in_lead c.in_follow refl) tt
+    is_refusal f (fault.Refused Lead code) _ c.faulty (lead_refused (folder_keys state) (sought_columns state word) number state.seen (ask_of state 2) (ask_of state 3) lead follow code (Refused other) c.in_lead c.in_follow refl) tt
 only_refusals state seed word s t a b y z number lead follow (Finds g) (At k) f c = absurd c.by_follow
 only_refusals state seed word s t a b y z number lead follow (Finds g) (Id m name) f c = absurd c.by_follow
 only_refusals state seed word s t a b y z number lead follow (Finds g) (Staged name) f c = absurd c.by_follow
 only_refusals state seed word s t a b y z number lead follow (Finds g) (Committed m name) f c = absurd c.by_follow
 only_refusals state seed word s t a b y z number lead follow (Finds g) (Refused code) f c =
-    is_refusal f (fault.Refused Follow code) _ c.faulty (follow_refused (folder_keys state) (columns_of state word) number state.seen (ask_of state 2) (ask_of state 3) lead follow g code c.in_lead c.in_follow) tt
+    is_refusal f (fault.Refused Follow code) _ c.faulty (follow_refused (folder_keys state) (sought_columns state word) number state.seen (ask_of state 2) (ask_of state 3) lead follow g code c.in_lead c.in_follow) tt
 only_refusals state seed word s t a b y z number lead follow (Finds g) (Finds h) f c =
     let well = both_found state seed word s t a b y z number lead follow g h f c in
     absurd (let e : Ok well.0 ≡ Err f = sym well.1 ∙ c.faulty in cc)
@@ -179,7 +179,7 @@ fresh_version seen version n m e same l l' =
 
 -- a check that failed, failed by a refusal
 pub failed_refused : (lead lead' follow follow' : Heard) (state : KeptState) (seed word : List ℕ) (f : CheckFault) (a : TellsSeen lead lead' state) (b : TellsSeen follow follow' state) → IsKeptState state → Agree a.folder_now.history b.folder_now.history
-    → AllByRecursion (IsSealed (folder_keys state)) a.folder_now.history → Failed lead lead' follow follow' state (sought_of state seed word) f → IsRefusal f
+    → AllByRecursion (IsSealed (folder_keys state)) a.folder_now.history → Failed lead lead' follow follow' state (sought_of state seed word) f → IsDomainRefusal f
 failed_refused lead lead' follow follow' state seed word f a b kept agree sealed (inl p) =
     let n = lengths_told lead lead' follow follow' state (Err f) a.folder_before a.folder_now b.folder_before b.folder_now a.told_before a.told_now b.told_before b.told_now a.seen b.seen p in
     absurd (let e : Err f ≡ Ok n.0 = n.1 in cc)

@@ -27,7 +27,7 @@ use Rattle.dory_wire.specs.Frame.{message_in}
 use Rattle.dory_wire.specs.Reading.{if_read, reply_in, reply_of, reply_or_none}
 use Rattle.dory_wire.specs.Spelling.{IsWant}
 use Rattle.dory_wire.specs.StepReply.{Steps, commit_answer, stage_answer, which_answer}
-use Rattle.dory_link.specs.Told.{AnswersTo, Heard, IsAnswer, Told}
+use Rattle.dory_link.specs.Told.{IsReplyTo, Heard, IsFolderReply, Told}
 use Rattle.dory_verify.specs.declared.fault.CheckFault.TheVariants as check
 use Rattle.dory_verify.specs.Checks.{echo, same_ask}
 use Rattle.dory_member.specs.declared.outcome.Fault.{Fault}
@@ -38,12 +38,12 @@ use Rattle.dory_member.specs.declared.phase.Single.TheVariants as single
 use Rattle.dory_member.specs.declared.phase.UpdateStep.{UpdateStep}
 use Rattle.dory_member.specs.declared.phase.UpdateStep.TheVariants.{StageFollow, StageLead, OrderLead, FollowOn, WhichOther, FollowOther}
 use Rattle.dory_member.specs.declared.phase.Run.{Run}
-use Rattle.dory_member.specs.Course.{name, request_of, single_of, to, want_of}
+use Rattle.dory_member.specs.Course.{name, ask_request, single_of, to, want_of}
 use Rattle.dory_member.specs.Single.{◌>>=◌, checked, confirmed, form, formed, framed, is_answer, mark, refused, said, wanted}
 use Rattle.dory_base.specs.declared.entry.Entry.{Entry}
-use Rattle.dory_client.specs.Asked.{Replies}
+use Rattle.dory_client.specs.Asked.{HasReply}
 use Rattle.dory_client.specs.Complete.{TellsFolder}
-use Rattle.dory_client.specs.Way.{AskOver, Links}
+use Rattle.dory_client.specs.Way.{ExchangedOver, Links}
 use Rattle.dory_client.proofs.Committed.{follower}
 use Rattle.dory_client.proofs.Replied.{grown_told}
 
@@ -83,30 +83,30 @@ wanted_same s m =
     ap (λ (b : Bool). cond b (Ok m) (Err (fault.Unconfirmed s m m))) same
 
 -- it confirms what was asked, or refuses
-pub data Says (s : Side) (ask : Single) (what : What) : Type 0 where
-  Confirms : (m : Mark) → is_answer ask what ≡ true → said s ask what ≡ Ok m → Says s ask what
-  Refuses : (code : Refusal) → what ≡ Refused code → Says s ask what
+pub data Stated (s : Side) (ask : Single) (what : What) : Type 0 where
+  Confirms : (m : Mark) → is_answer ask what ≡ true → said s ask what ≡ Ok m → Stated s ask what
+  Refuses : (code : Refusal) → what ≡ Refused code → Stated s ask what
 
-stages : (s : Side) (id : UpdateId) (r : Result StagePlan Refusal) → Says s (single.Stage id) (stage_answer id r)
+stages : (s : Side) (id : UpdateId) (r : Result StagePlan Refusal) → Stated s (single.Stage id) (stage_answer id r)
 stages s id (Ok New) = Confirms (mark 0 id) refl (wanted_same s (mark 0 id))
 stages s id (Ok Same) = Confirms (mark 0 id) refl (wanted_same s (mark 0 id))
 stages s id (Ok (Done number)) = Confirms (mark number id) refl (wanted_same s (mark number id))
 stages s id (Err code) = Refuses code refl
 
-orders : (s : Side) (id : UpdateId) (r : Result Plan Refusal) → Says s (single.Order id) (commit_answer id r)
+orders : (s : Side) (id : UpdateId) (r : Result Plan Refusal) → Stated s (single.Order id) (commit_answer id r)
 orders s id (Ok (Fresh number)) = Confirms (mark number id) refl (wanted_same s (mark number id))
 orders s id (Ok (Again number)) = Confirms (mark number id) refl (wanted_same s (mark number id))
 orders s id (Err code) = Refuses code refl
 
-follows_at : (s : Side) (number n : ℕ) (id : UpdateId) → number ≡ n → Says s (single.Follow number id) (Committed n id)
-follows_at s number n id same = subst (λ (k : ℕ). Says s (single.Follow number id) (Committed k id)) same (Confirms (mark number id) refl (wanted_same s (mark number id)))
+follows_at : (s : Side) (number n : ℕ) (id : UpdateId) → number ≡ n → Stated s (single.Follow number id) (Committed n id)
+follows_at s number n id same = subst (λ (k : ℕ). Stated s (single.Follow number id) (Committed k id)) same (Confirms (mark number id) refl (wanted_same s (mark number id)))
 
-follows : (s : Side) (log : Log) (number : ℕ) (id : UpdateId) (r : Result Plan Refusal) → 1 ≤ number → look_follow log number id ≡ r → Says s (single.Follow number id) (commit_answer id r)
+follows : (s : Side) (log : Log) (number : ℕ) (id : UpdateId) (r : Result Plan Refusal) → 1 ≤ number → look_follow log number id ≡ r → Stated s (single.Follow number id) (commit_answer id r)
 follows s log number id (Ok (Fresh n)) some e = follows_at s number n id (follow_seen log number n id e).1
 follows s log number id (Ok (Again n)) some e = follows_at s number n id (follower log.role log number n id some e).1
 follows s log number id (Err code) some e = Refuses code refl
 
-tells_which : (s : Side) (number : ℕ) (r : Result UpdateId Refusal) → Says s (single.Which number) (which_answer number r)
+tells_which : (s : Side) (number : ℕ) (r : Result UpdateId Refusal) → Stated s (single.Which number) (which_answer number r)
 tells_which s number (Ok id) = Confirms (mark number id) refl (wanted_same s (mark number id))
 tells_which s number (Err code) = Refuses code refl
 
@@ -119,11 +119,11 @@ IsCounted (want.Stage e) = ⊤
 IsCounted (want.Order id) = ⊤
 IsCounted (want.Follow number id) = 1 ≤ number
 
-says_as : (s : Side) (ask : Single) (what answer : What) → what ≡ answer → Says s ask answer → Says s ask what
-says_as s ask what answer e says = subst (Says s ask) (sym e) says
+says_as : (s : Side) (ask : Single) (what answer : What) → what ≡ answer → Stated s ask answer → Stated s ask what
+says_as s ask what answer e says = subst (Stated s ask) (sym e) says
 
 -- what a step of an update is answered
-steps_say : (s : Side) (e : Entry) (at : UpdateStep) (st next : State) (what : What) → IsCounted (want_of e (single_of e.id at)) → Steps st (want_of e (single_of e.id at)) what next → Says s (single_of e.id at) what
+steps_say : (s : Side) (e : Entry) (at : UpdateStep) (st next : State) (what : What) → IsCounted (want_of e (single_of e.id at)) → Steps st (want_of e (single_of e.id at)) what next → Stated s (single_of e.id at) what
 steps_say s e at st next what counted (inr out) = Refuses NoMemory out.answer
 steps_say s e StageFollow st next what counted (inl step) = says_as s (single.Stage e.id) what _ step.answer (stages s e.id (look_stage (log_of st) e))
 steps_say s e StageLead st next what counted (inl step) = says_as s (single.Stage e.id) what _ step.answer (stages s e.id (look_stage (log_of st) e))
@@ -144,7 +144,7 @@ pub record Tells (folder : ℕ) (m : Links) : Type 0 where
   pub by_follow : TellsFolder m.follow.folders folder follow
 
 -- they go on to tell it
-pub still : (s : Side) (folder : ℕ) (m z : Links) (r : Request) (frame : List ℕ) → Tells folder m → AskOver s m z r frame → Tells folder z
+pub still : (s : Side) (folder : ℕ) (m z : Links) (r : Request) (frame : List ℕ) → Tells folder m → ExchangedOver s m z r frame → Tells folder z
 still side.Lead folder m z r frame t (ask, same) =
     let x = grown_told m.lead.folders z.lead.folders folder t.lead t.by_lead ask.grown in
     record { lead = x.0; follow = t.follow; by_lead = x.1; by_follow = subst (λ (h : Heard). TellsFolder h.folders folder t.follow) (sym same) t.by_follow }
@@ -158,7 +158,7 @@ pub record Replied (r : Request) (frame : List ℕ) : Type 0 where
   pub now : Told
   pub what : What
   pub replied : reply_in frame ≡ Some (record { ask = r.ask; what = what })
-  pub answers : AnswersTo before now r.want what
+  pub answers : IsReplyTo before now r.want what
   pub counted : IsCounted r.want
 
 counted_of : (w : Want) → IsWant w → IsCounted w
@@ -169,22 +169,22 @@ counted_of (want.Stage e) is = tt
 counted_of (want.Order id) is = tt
 counted_of (want.Follow number id) is = is.0.some
 
-by_folder : (x y : Option Told) (a b : Told) (r : Request) (frame : List ℕ) (what : What) → x ≡ Some a → y ≡ Some b → reply_in frame ≡ Some (record { ask = r.ask; what = what }) → IsAnswer x y r.want what → IsWant r.want → Replied r frame
+by_folder : (x y : Option Told) (a b : Told) (r : Request) (frame : List ℕ) (what : What) → x ≡ Some a → y ≡ Some b → reply_in frame ≡ Some (record { ask = r.ask; what = what }) → IsFolderReply x y r.want what → IsWant r.want → Replied r frame
 by_folder x y a b r frame what is js replied by range = record {
   before = a;
   now = b;
   what = what;
   replied = replied;
-  answers = subst (λ (o : Option Told). IsAnswer (Some a) o r.want what) js (subst (λ (o : Option Told). IsAnswer o y r.want what) is by);
+  answers = subst (λ (o : Option Told). IsFolderReply (Some a) o r.want what) js (subst (λ (o : Option Told). IsFolderReply o y r.want what) is by);
   counted = counted_of r.want range;
 }
 
-replied_by : (before now : Option (ℕ → Option Told)) (x y : Told) (r : Request) (frame : List ℕ) → TellsFolder before r.folder.0 x → TellsFolder now r.folder.0 y → Replies before now r frame → IsWant r.want → Replied r frame
+replied_by : (before now : Option (ℕ → Option Told)) (x y : Told) (r : Request) (frame : List ℕ) → TellsFolder before r.folder.0 x → TellsFolder now r.folder.0 y → HasReply before now r frame → IsWant r.want → Replied r frame
 replied_by None now x y r frame told told' replies range = absurd told
 replied_by (Some before) None x y r frame told told' replies range = absurd replies
 replied_by (Some before) (Some now) x y r frame told told' (what, replied, by) range = by_folder (before r.folder.0) (now r.folder.0) x y r frame what told told' replied by range
 
-over_told : (s : Side) (m z : Links) (r : Request) (frame : List ℕ) → Tells r.folder.0 m → AskOver s m z r frame → Replied r frame
+over_told : (s : Side) (m z : Links) (r : Request) (frame : List ℕ) → Tells r.folder.0 m → ExchangedOver s m z r frame → Replied r frame
 over_told side.Lead m z r frame t (ask, same) =
     let x = grown_told m.lead.folders z.lead.folders r.folder.0 t.lead t.by_lead ask.grown in
     replied_by m.lead.folders z.lead.folders t.lead x.0 r frame t.by_lead x.1 ask.replies ask.in_range.want
@@ -193,7 +193,7 @@ over_told side.Follow m z r frame t (same, ask) =
     replied_by m.follow.folders z.follow.folders t.follow x.0 r frame t.by_follow x.1 ask.replies ask.in_range.want
 
 -- what came to a step of an update
-says_at : (s : Side) (e : Entry) (at : UpdateStep) (x y : Told) (what : What) → IsCounted (want_of e (single_of e.id at)) → AnswersTo x y (want_of e (single_of e.id at)) what → Says s (single_of e.id at) what
+says_at : (s : Side) (e : Entry) (at : UpdateStep) (x y : Told) (what : What) → IsCounted (want_of e (single_of e.id at)) → IsReplyTo x y (want_of e (single_of e.id at)) what → Stated s (single_of e.id at) what
 says_at s e StageFollow x y what counted (st, next, is) = steps_say s e StageFollow st next what counted is.steps
 says_at s e StageLead x y what counted (st, next, is) = steps_say s e StageLead st next what counted is.steps
 says_at s e OrderLead x y what counted (st, next, is) = steps_say s e OrderLead st next what counted is.steps
@@ -204,9 +204,9 @@ says_at s e (FollowOther number at id) x y what counted (st, next, is) = steps_s
 -- ---- what a step of an update comes to
 
 -- a mark, or the fault of a refusal
-pub data Comes (s : Side) (ask : Single) (r : Result Mark Fault) : Type 0 where
-  ToMark : (m : Mark) → r ≡ Ok m → Comes s ask r
-  ToRefusal : (code : Refusal) → r ≡ Err (refused s ask code) → Comes s ask r
+pub data CameAs (s : Side) (ask : Single) (r : Result Mark Fault) : Type 0 where
+  ToMark : (m : Mark) → r ≡ Ok m → CameAs s ask r
+  ToRefusal : (code : Refusal) → r ≡ Err (refused s ask code) → CameAs s ask r
 
 allowed_refusal : (ask : Single) (code : Refusal) → is_answer ask (Refused code) ≡ true
 allowed_refusal (single.Which number) code = refl
@@ -220,15 +220,15 @@ said_refusal s (single.Stage id) code = refl
 said_refusal s (single.Order id) code = refl
 said_refusal s (single.Follow number id) code = refl
 
-heard_by : (s : Side) (ask : Single) (asked : AskId) (frame : List ℕ) (what : What) → reply_in frame ≡ Some (record { ask = asked; what = what }) → Says s ask what → Comes s ask (confirmed s ask asked frame)
+heard_by : (s : Side) (ask : Single) (asked : AskId) (frame : List ℕ) (what : What) → reply_in frame ≡ Some (record { ask = asked; what = what }) → Stated s ask what → CameAs s ask (confirmed s ask asked frame)
 heard_by s ask asked frame what replied (Confirms m allowed says) = ToMark m (heard_as s ask asked frame what replied allowed ∙ says)
 heard_by s ask asked frame what replied (Refuses code is) =
     let came : reply_in frame ≡ Some (record { ask = asked; what = Refused code }) = replied ∙ ap (λ (w : What). Some (record { ask = asked; what = w })) is in
     ToRefusal code (heard_as s ask asked frame (Refused code) came (allowed_refusal ask code) ∙ said_refusal s ask code)
 
 -- what a told domain's reply to a step of an update comes to
-pub confirms : (s : Side) (run : Run) (e : Entry) (at : UpdateStep) (m z : Links) (frame : List ℕ) → Tells run.kept.folder.0 m → AskOver s m z (request_of run (to s (want_of e (single_of e.id at)))) frame
-    → Comes s (single_of e.id at) (confirmed s (single_of e.id at) (name run run.step) frame)
+pub confirms : (s : Side) (run : Run) (e : Entry) (at : UpdateStep) (m z : Links) (frame : List ℕ) → Tells run.kept.folder.0 m → ExchangedOver s m z (ask_request run (to s (want_of e (single_of e.id at)))) frame
+    → CameAs s (single_of e.id at) (confirmed s (single_of e.id at) (name run run.step) frame)
 confirms s run e at m z frame t over =
-    let r = over_told s m z (request_of run (to s (want_of e (single_of e.id at)))) frame t over in
+    let r = over_told s m z (ask_request run (to s (want_of e (single_of e.id at)))) frame t over in
     heard_by s (single_of e.id at) (name run run.step) frame r.what r.replied (says_at s e at r.before r.now r.what r.counted r.answers)

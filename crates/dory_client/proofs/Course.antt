@@ -10,20 +10,20 @@ use Rattle.dory_verify.specs.Checks.{lengths_of, first_fault_of}
 use Rattle.dory_verify.specs.Listing.{Lists}
 use Rattle.dory_state.specs.declared.kept.KeptState.{KeptState}
 use Rattle.dory_member.specs.Course.{lesser}
-use Rattle.dory_client.specs.Sought.{Sought, ask_of, asked_of, searching}
-use Rattle.dory_client.specs.Asked.{Ask}
+use Rattle.dory_client.specs.Sought.{Sought, ask_of, step_request, searching}
+use Rattle.dory_client.specs.Asked.{Exchanged}
 
 -- two requests were asked, the lead's first, and a check of what came gave this
 pub record Pair {Y : Type 0} (lead lead' follow follow' : Heard) (first second : Request) (check : List ℕ → List ℕ → Result Y CheckFault) (gave : Result Y CheckFault) : Type 0 where
   pub from_lead : List ℕ
   pub from_follow : List ℕ
-  pub asked_lead : Ask lead lead' first from_lead
-  pub asked_follow : Ask follow follow' second from_follow
+  pub asked_lead : Exchanged lead lead' first from_lead
+  pub asked_follow : Exchanged follow follow' second from_follow
   pub checked : check from_lead from_follow ≡ gave
 
 -- both were asked for their lengths
 abbrev pub Lengths : Heard → Heard → Heard → Heard → KeptState → Result (ℕ × ℕ) CheckFault → Type 0
-Lengths lead lead' follow follow' state gave = Pair lead lead' follow follow' (asked_of state 0 Latest) (asked_of state 1 Latest) (lengths_of state.seen (ask_of state 0) (ask_of state 1)) gave
+Lengths lead lead' follow follow' state gave = Pair lead lead' follow follow' (step_request state 0 Latest) (step_request state 1 Latest) (lengths_of state.seen (ask_of state 0) (ask_of state 1)) gave
 
 -- both were asked what a version holds, each by its own keys
 abbrev pub Finding : Heard → Heard → Heard → Heard → KeptState → ℕ → Sought → Result (Found × Found) CheckFault → Type 0

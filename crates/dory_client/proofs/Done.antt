@@ -11,24 +11,24 @@ use Rattle.dory_member.specs.declared.outcome.Fault.{Fault}
 use Rattle.dory_member.specs.declared.outcome.Fault.TheVariants as fault
 use Rattle.dory_member.specs.declared.outcome.Outcome.{Outcome}
 use Rattle.dory_member.specs.declared.phase.Run.{Run}
-use Rattle.dory_member.specs.Course.{Ask as Asking, asks, ended_of, run_after}
+use Rattle.dory_member.specs.Course.{Ask, asks, ended_of, run_after}
 use Rattle.dory_client.specs.declared.start.Todo.{Todo}
 use Rattle.dory_client.specs.declared.start.Start.TheVariants.{Act}
 use Rattle.dory_client.specs.declared.end.ClientEnd.TheVariants as ends
 use Rattle.dory_client.specs.Command.{HasText, NoCommand}
-use Rattle.dory_client.specs.Confirmed.{IsBegun}
-use Rattle.dory_client.specs.Ends.{FailsAs, IsKeeperEnd, end_of, input_end}
+use Rattle.dory_client.specs.CallEffects.{IsBegun}
+use Rattle.dory_client.specs.Ends.{AskFailsAs, IsKeeperEnd, fault_end, input_end}
 use Rattle.dory_client.specs.declared.input.InputEnd.{InputEnd}
 use Rattle.dory_client.specs.declared.input.InputEnd.TheVariants as input
-use Rattle.dory_client.specs.Goes.{Goes, Unsaved, Broken, RanOut, Fell, Unkept, Came, IsGood, Says, Wrote, WrotePart, Untold, WentBy, line_of}
+use Rattle.dory_client.specs.CommandEnds.{CommandEnds, FirstSaveFailed, AskFailed, RanOut, CommandFailed, LastSaveFailed, CommandPrinted, IsGood, Prints, Wrote, WrotePart, Untold, ExchangedBetween, outcome_line}
 use Rattle.dory_client.specs.Kept.{KeepsOf}
 use Rattle.dory_client.specs.Run.{Acts, NotMade, Refused, NoRoom, Began, ActsIn, StartsIn, Loads, Unloaded, Loaded}
 use Rattle.dory_client.specs.Scene.{Input, Scene}
-use Rattle.dory_client.specs.Way.{Links, Stuck}
+use Rattle.dory_client.specs.Way.{Links, Interrupted}
 
 -- ---- ends that aren't `Done`
 
-pub not_fault : (f : Fault) → ends.Done ≡ end_of f → ⊥
+pub not_fault : (f : Fault) → ends.Done ≡ fault_end f → ⊥
 not_fault (fault.Check c) e = cc
 not_fault (fault.Unconfirmed side want got) e = cc
 not_fault (fault.Diverged number lead_id follow_id) e = cc
@@ -46,11 +46,11 @@ pub not_keeper : IsKeeperEnd ends.Done → ⊥
 not_keeper (inl e) = cc
 not_keeper (inr e) = cc
 
-not_failed : (side : Side) → FailsAs side ends.Done → ⊥
+not_failed : (side : Side) → AskFailsAs side ends.Done → ⊥
 not_failed side (inl e) = cc
 not_failed side (inr e) = cc
 
-pub not_stuck : (run : Run) (o : Option Asking) (a z : Links) → Stuck run o a z ends.Done → ⊥
+pub not_stuck : (run : Run) (o : Option Ask) (a z : Links) → Interrupted run o a z ends.Done → ⊥
 not_stuck run None a z s = s
 not_stuck run (Some ask) a z s = not_failed ask.side s.1
 
@@ -60,25 +60,25 @@ not_stuck run (Some ask) a z s = not_failed ask.side s.1
 pub record CameWell (run : Run) (a z : Scene) : Type 0 where
   pub frames : List (List ℕ)
   pub outcome : Outcome
-  pub went : WentBy run frames a z
+  pub went : ExchangedBetween run frames a z
   pub ended : ended_of run frames ≡ Some outcome
   pub good : IsGood outcome
   pub kept : KeepsOf run a.kept z.kept (run_after run frames).kept
-  pub wrote : Appends a.written z.written (line_of outcome)
+  pub wrote : Appends a.written z.written (outcome_line outcome)
 
-wrote_all : (text : List ℕ) (before now : Option (List ℕ)) → Says text before now ends.Done → Appends before now text
+wrote_all : (text : List ℕ) (before now : Option (List ℕ)) → Prints text before now ends.Done → Appends before now text
 wrote_all text before now (Wrote w e) = w
 wrote_all text before now (WrotePart w e) = absurd (cc)
 wrote_all text before now (Untold w e) = absurd (cc)
 
-pub came_well : (run : Run) (a z : Scene) → Goes run a z ends.Done → CameWell run a z
-came_well run a z (Unsaved asked kept wrote is) = absurd (not_keeper is)
-came_well run a z (Broken broke kept wrote) = absurd (not_stuck (run_after run broke.frames) (asks (run_after run broke.frames).phase) broke.between _ broke.stuck)
+pub came_well : (run : Run) (a z : Scene) → CommandEnds run a z ends.Done → CameWell run a z
+came_well run a z (FirstSaveFailed asked kept wrote is) = absurd (not_keeper is)
+came_well run a z (AskFailed broke kept wrote) = absurd (not_stuck (run_after run broke.frames) (asks (run_after run broke.frames).phase) broke.between _ broke.stuck)
 came_well run a z (RanOut frames went kept wrote e) = absurd (cc)
-came_well run a z (Fell frames f went ended kept wrote e) = absurd (not_fault f e)
-came_well run a z (Unkept frames outcome went ended keeps kept wrote is) = absurd (not_keeper is)
-came_well run a z (Came frames outcome went ended good kept says) =
-    record { frames = frames; outcome = outcome; went = went; ended = ended; good = good; kept = kept; wrote = wrote_all (line_of outcome) a.written z.written says }
+came_well run a z (CommandFailed frames f went ended kept wrote e) = absurd (not_fault f e)
+came_well run a z (LastSaveFailed frames outcome went ended keeps kept wrote is) = absurd (not_keeper is)
+came_well run a z (CommandPrinted frames outcome went ended good kept says) =
+    record { frames = frames; outcome = outcome; went = went; ended = ended; good = good; kept = kept; wrote = wrote_all (outcome_line outcome) a.written z.written says }
 
 -- a command that was done began in this state
 pub record DidWell (t : Todo) (seed : List ℕ) (i i' : Input) (a z : Scene) : Type 0 where

@@ -17,7 +17,7 @@ use Rattle.dory_member.specs.declared.outcome.Fault.TheVariants as fault
 use Rattle.dory_member.specs.declared.outcome.Outcome.{Outcome}
 use Rattle.dory_member.specs.declared.outcome.Outcome.TheVariants.{Posted, Removed, Accepted, NothingPending, Lengths as LengthsAre, Rotated, Failed}
 use Rattle.dory_member.specs.declared.phase.Run.{Run}
-use Rattle.dory_member.specs.Course.{Ask as Asking, asks, begun, ended_of, if_finished, refused_if, resumed, run_after}
+use Rattle.dory_member.specs.Course.{Ask, asks, begun, ended_of, if_finished, refused_if, resumed, run_after}
 use Rattle.dory_member.specs.Draw.{is_last_epoch, is_last_serial, is_used_up}
 use Rattle.dory_client.specs.declared.input.InputEnd.{InputEnd}
 use Rattle.dory_client.specs.declared.input.InputEnd.TheVariants as input
@@ -28,15 +28,15 @@ use Rattle.dory_client.specs.declared.start.Start.TheVariants.{Init, Act}
 use Rattle.dory_client.specs.declared.end.ClientEnd.{ClientEnd}
 use Rattle.dory_client.specs.declared.end.ClientEnd.TheVariants as ends
 use Rattle.dory_client.specs.Command.{HasNoText, NoCommand}
-use Rattle.dory_client.specs.Ends.{FailsAs, IsKeeperEnd, end_of, input_end}
+use Rattle.dory_client.specs.Ends.{AskFailsAs, IsKeeperEnd, fault_end, input_end}
 use Rattle.dory_client.specs.Finishes.{AreFew, BothTell, EndsFine, HasShort, IsReady, IsUpToDate, SetsOut}
-use Rattle.dory_client.specs.Goes.{Goes, Unsaved, Broken, RanOut, Fell, Unkept, Came, IsGood, Says, Wrote, WrotePart, Untold, WentBy, line_of as text_line, scene_links}
+use Rattle.dory_client.specs.CommandEnds.{CommandEnds, FirstSaveFailed, AskFailed, RanOut, CommandFailed, LastSaveFailed, CommandPrinted, IsGood, Prints, Wrote, WrotePart, Untold, ExchangedBetween, outcome_line as text_line, scene_links}
 use Rattle.dory_client.specs.Input.{AreTooMany}
-use Rattle.dory_client.specs.Run.{Acts, NotMade, Refused, NoRoom, Began, Begins, IsRun, Loads, Unloaded, Loaded, Runs, StartsIn}
+use Rattle.dory_client.specs.Run.{Acts, NotMade, Refused, NoRoom, Began, StateBegins, IsRun, Loads, Unloaded, Loaded, Runs, StartsIn}
 use Rattle.dory_client.specs.Run as run
 use Rattle.dory_client.specs.Scene.{Input, Scene}
 use Rattle.dory_client.specs.Start.{command_of, start_of}
-use Rattle.dory_client.specs.Way.{Links, Stuck, Went}
+use Rattle.dory_client.specs.Way.{Links, Interrupted, ExchangedInTurn}
 use Rattle.dory_client.proofs.Acting.{Acted, acted}
 use Rattle.dory_client.proofs.Beginnings.{IsBeginning, Kind, Updates, Searches, Measures, Rests, beginning}
 use Rattle.dory_client.proofs.Confirming.{Tells}
@@ -81,7 +81,7 @@ never k seed text (Plain command.Rotate) g epoch e = not_refused (is_last_epoch 
 
 pub data Cause (t : Todo) (end : ClientEnd) : Type 0 where
   ByKeeper : IsKeeperEnd end → Cause t end
-  ByLink : (side : Side) → FailsAs side end → Cause t end
+  ByLink : (side : Side) → AskFailsAs side end → Cause t end
   ByInput : end ≡ ends.InputFault → Cause t end
   ByLength : ((left : Option (List ℕ)) → HasShort t left → AreFew left) → end ≡ ends.InputLong → Cause t end
   ByOutput : end ≡ ends.OutputFault → Cause t end
@@ -101,22 +101,22 @@ not_made k t i i' end ready (Rattle.dory_client.specs.Command.Refused f e unread
 not_made k t i i' end ready (Rattle.dory_client.specs.Command.NoText e has is) = by_input t i i' e end has is
 not_made k t i i' end ready (Rattle.dory_client.specs.Command.NoRoom text has is) = fine_as t end ends.NoMemory is tt
 
-by_stuck : (t : Todo) (end : ClientEnd) (r : Run) (o : Option Asking) (m n : Links) → Stuck r o m n end → Cause t end
+by_stuck : (t : Todo) (end : ClientEnd) (r : Run) (o : Option Ask) (m n : Links) → Interrupted r o m n end → Cause t end
 by_stuck t end r None m n s = absurd s
 by_stuck t end r (Some ask) m n s = ByLink ask.side s.1
 
-by_saying : (t : Todo) (end : ClientEnd) (text : List ℕ) (x y : Option (List ℕ)) → Says text x y end → Cause t end
+by_saying : (t : Todo) (end : ClientEnd) (text : List ℕ) (x y : Option (List ℕ)) → Prints text x y end → Cause t end
 by_saying t end text x y (Wrote w e) = fine_as t end ends.Done e tt
 by_saying t end text x y (WrotePart w e) = ByOutput e
 by_saying t end text x y (Untold w e) = fine_as t end ends.NoMemory e tt
 
-by_going : (t : Todo) (r : Run) (a z : Scene) (end : ClientEnd) → ((frames : List (List ℕ)) (o : Outcome) → WentBy r frames a z → ended_of r frames ≡ Some o → IsFine o) → Goes r a z end → Cause t end
-by_going t r a z end fine (Unsaved asked kept wrote e) = ByKeeper e
-by_going t r a z end fine (Broken broke kept wrote) = by_stuck t end (run_after r broke.frames) (asks (run_after r broke.frames).phase) broke.between (scene_links z) broke.stuck
+by_going : (t : Todo) (r : Run) (a z : Scene) (end : ClientEnd) → ((frames : List (List ℕ)) (o : Outcome) → ExchangedBetween r frames a z → ended_of r frames ≡ Some o → IsFine o) → CommandEnds r a z end → Cause t end
+by_going t r a z end fine (FirstSaveFailed asked kept wrote e) = ByKeeper e
+by_going t r a z end fine (AskFailed broke kept wrote) = by_stuck t end (run_after r broke.frames) (asks (run_after r broke.frames).phase) broke.between (scene_links z) broke.stuck
 by_going t r a z end fine (RanOut frames went kept wrote e) = fine_as t end ends.NoMemory e tt
-by_going t r a z end fine (Fell frames f went ended kept wrote e) = fine_as t end (end_of f) e (fine frames (Failed f) went ended)
-by_going t r a z end fine (Unkept frames o went ended keeps kept wrote e) = ByKeeper e
-by_going t r a z end fine (Came frames o went ended good kept says) = by_saying t end (text_line o) a.written z.written says
+by_going t r a z end fine (CommandFailed frames f went ended kept wrote e) = fine_as t end (fault_end f) e (fine frames (Failed f) went ended)
+by_going t r a z end fine (LastSaveFailed frames o went ended keeps kept wrote e) = ByKeeper e
+by_going t r a z end fine (CommandPrinted frames o went ended good kept says) = by_saying t end (text_line o) a.written z.written says
 
 -- ---- what a run comes to
 
@@ -139,7 +139,7 @@ no_search k text word (Post doc) m told fresh is = cc
 no_search k text word (Plain c) m told fresh is = subst (λ (x : Command). IsUpToDate (Plain x) k.seen told.lead told.follow) is fresh
 
 run_fine : (k : KeptState) (seed text : List ℕ) (t : Todo) (r : Run) (a z : Scene) (told : Tells k.folder.0 (scene_links a)) → IsUpToDate t k.seen told.lead told.follow → begun k seed (command_of k text t) ≡ Ok r
-    → (frames : List (List ℕ)) (o : Outcome) → WentBy r frames a z → ended_of r frames ≡ Some o → IsFine o
+    → (frames : List (List ℕ)) (o : Outcome) → ExchangedBetween r frames a z → ended_of r frames ≡ Some o → IsFine o
 run_fine k seed text t r a z told fresh begins frames o went ended = by b.kind
   where
     b : IsBeginning k seed (command_of k text t) r
@@ -151,7 +151,7 @@ run_fine k seed text t r a z told fresh begins frames o went ended = by b.kind
     by (Measures named is) =
         let few = fresh_lengths k text t (scene_links a) told fresh named in
         lengths_fine k seed frames (scene_links a) (scene_links z) o told few.0 few.1
-        (subst (λ (x : Run). Went x frames (scene_links a) (scene_links z)) is went) (subst (λ (x : Run). ended_of x frames ≡ Some o) is ended)
+        (subst (λ (x : Run). ExchangedInTurn x frames (scene_links a) (scene_links z)) is went) (subst (λ (x : Run). ended_of x frames ≡ Some o) is ended)
     by (Rests x good is) = rest_fine r x frames (scene_links a) (scene_links z) o is (good_fine x good) went ended
 
 acts_by : (k : KeptState) (seed : List ℕ) (t : Todo) (i i' : Input) (a z : Scene) (end : ClientEnd) (told : Tells k.folder.0 (scene_links a)) → IsReady k t → IsUpToDate t k.seen told.lead told.follow → Acts k seed t i i' a z end → Cause t end
@@ -210,12 +210,12 @@ begins words seed line first i i' a z end K O is starts none ran k o nk no_o = b
     keeper (inl e) = absurd (nk (k e))
     keeper (inr e) = inr e
 
-    saying : (text : List ℕ) (x y : Option (List ℕ)) → Says text x y end → (end ≡ ends.Done) ⊎ (end ≡ ends.NoMemory)
+    saying : (text : List ℕ) (x y : Option (List ℕ)) → Prints text x y end → (end ≡ ends.Done) ⊎ (end ≡ ends.NoMemory)
     saying text x y (Wrote w e) = inl e
     saying text x y (WrotePart w e) = absurd (no_o (o e))
     saying text x y (Untold w e) = inr e
 
-    by_begin : Begins first a.kept z.kept a.written z.written end → (end ≡ ends.Done) ⊎ (end ≡ ends.NoMemory)
+    by_begin : StateBegins first a.kept z.kept a.written z.written end → (end ≡ ends.Done) ⊎ (end ≡ ends.NoMemory)
     by_begin (run.Unsaved kept stays e) = keeper e
     by_begin (run.Saved kept says) = saying _ a.written z.written says
 

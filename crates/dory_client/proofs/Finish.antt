@@ -11,16 +11,16 @@ use Rattle.dory_member.specs.declared.outcome.Outcome.TheVariants.{Posted, Remov
 use Rattle.dory_member.specs.declared.outcome.Fault.TheVariants as fault
 use Rattle.dory_member.specs.declared.command.Command.{Command}
 use Rattle.dory_member.specs.declared.outcome.Fault.{Fault}
-use Rattle.dory_member.specs.Course.{Ask as Asking, asks, begun, ended_of, fails, finished, kept_at, outcome_at, phase_after, run_after, took}
-use Rattle.dory_member.specs.Machine.{IsRefused, Machine, Saves, asks_next, begins, first_of, is_asking, keeps, next_of, saves_first, saves_last, turn_of}
+use Rattle.dory_member.specs.Course.{Ask, asks, begun, ended_of, fails, finished, kept_at, outcome_at, phase_after, run_after, took}
+use Rattle.dory_member.specs.Machine.{IsRefused, Machine, Saves, asks_next, begins, just_begun, waits_for_reply, keeps, going_on, saves_first, saves_last, turn_of}
 use Rattle.dory_client.specs.declared.end.ClientEnd.{ClientEnd}
 use Rattle.dory_client.specs.declared.end.ClientEnd.TheVariants as ends
-use Rattle.dory_client.specs.Ends.{end_of}
-use Rattle.dory_client.specs.Way.{Links, Turned, Went, links}
+use Rattle.dory_client.specs.Ends.{fault_end}
+use Rattle.dory_client.specs.Way.{Links, RunExchanged, ExchangedInTurn, links}
 use Rattle.dory_client.specs.Kept.{KeepsIf, KeepsNow, KeepsOf, OldOrNew, quiet}
 use Rattle.dory_client.specs.Driven.{Driven, StandsAt}
 use Rattle.dory_client.specs.Scene.{IsUntouched, Scene}
-use Rattle.dory_client.specs.Goes.{Goes, Came, Fell, RanOut, Unkept, Closes, SaveDone, SaveFailed, Comes, GoesFrom, IsBegun, NoRoom, NotBegun}
+use Rattle.dory_client.specs.CommandEnds.{CommandEnds, CommandPrinted, CommandFailed, RanOut, LastSaveFailed, Closes, SaveDone, SaveFailed, OutcomePrints, CommandEndsFrom, IsBegun, NoRoom, NotBegun}
 
 -- ---- what is kept, from one moment to the next
 
@@ -54,9 +54,9 @@ silent (Measuring word lead) h = absurd (cc)
 silent (Searching q lead) h = absurd (cc)
 silent (Ended o) h = refl
 
-pub no_frames : (run : Run) (frames : List (List ℕ)) (a z : Links) → saves_first run.phase ≡ false → Went run frames a z → frames ≡ []
+pub no_frames : (run : Run) (frames : List (List ℕ)) (a z : Links) → saves_first run.phase ≡ false → ExchangedInTurn run frames a z → frames ≡ []
 no_frames run [] a z h went = refl
-no_frames run (f ∷ frames) a z h (m, turned, more) = absurd (subst (λ (o : Option Asking). Turned run o a m f) (silent run.phase h) turned)
+no_frames run (f ∷ frames) a z h (m, turned, more) = absurd (subst (λ (o : Option Ask). RunExchanged run o a m f) (silent run.phase h) turned)
 
 same_last : (p : Phase) → saves_first p ≡ false → saves_last p ≡ false
 same_last (Updating e at) h = refl
@@ -80,14 +80,14 @@ kept_same k (Searching q lead) h = refl
 kept_same k (Ended o) h = kept_same_at k o h
 
 -- a run that goes on keeps nothing new
-going : (run : Run) (p : Phase) (frame : List ℕ) (a z : Links) → Turned run (asks p) a z frame → saves_last p ≡ false
+going : (run : Run) (p : Phase) (frame : List ℕ) (a z : Links) → RunExchanged run (asks p) a z frame → saves_last p ≡ false
 going run (Updating e at) frame a z t = refl
 going run (Measuring word lead) frame a z t = refl
 going run (Searching q lead) frame a z t = refl
 going run (Ended o) frame a z t = absurd t
 
 -- what is kept stays until an end that keeps something new
-pub kept_on : (run : Run) (frames : List (List ℕ)) (a z : Links) → Went run frames a z → saves_last (run_after run frames).phase ≡ false → (run_after run frames).kept ≡ run.kept
+pub kept_on : (run : Run) (frames : List (List ℕ)) (a z : Links) → ExchangedInTurn run frames a z → saves_last (run_after run frames).phase ≡ false → (run_after run frames).kept ≡ run.kept
 kept_on run [] a z went h = refl
 kept_on run (f ∷ []) a z went h = kept_same run.kept (phase_after run run.phase f) h
 kept_on run (f ∷ g ∷ frames) a z (m, turned, (n, next, more)) h =
@@ -102,7 +102,7 @@ last_outcome (Searching q lead) h = absurd (cc)
 last_outcome (Ended o) h = (o, refl, h)
 
 -- the last state is kept, by what was kept first
-keeps_last : (run : Run) (frames : List (List ℕ)) (l z : Links) (a b c : Told) → Went run frames l z → KeepsOf run a b run.kept → KeepsIf (saves_last (run_after run frames).phase) b c (run_after run frames).kept → KeepsOf run a c (run_after run frames).kept
+keeps_last : (run : Run) (frames : List (List ℕ)) (l z : Links) (a b c : Told) → ExchangedInTurn run frames l z → KeepsOf run a b run.kept → KeepsIf (saves_last (run_after run frames).phase) b c (run_after run frames).kept → KeepsOf run a c (run_after run frames).kept
 keeps_last run frames l z a b c went first last = by (saves_first run.phase) refl (saves_last (run_after run frames).phase) refl first last
   where
     by : (u : Bool) → saves_first run.phase ≡ u → (v : Bool) → saves_last (run_after run frames).phase ≡ v → KeepsIf u a b run.kept → KeepsIf v b c (run_after run frames).kept → KeepsIf u a c (run_after run frames).kept
@@ -115,7 +115,7 @@ keeps_last run frames l z a b c went first last = by (saves_first run.phase) ref
     by false e false i p q = stays_twice a b c p q
 
 -- the last save failed, by what was kept first
-keeps_either : (run : Run) (frames : List (List ℕ)) (l z : Links) (a b c : Told) → Went run frames l z → saves_last (run_after run frames).phase ≡ true → KeepsOf run a b run.kept → OldOrNew b c (run_after run frames).kept
+keeps_either : (run : Run) (frames : List (List ℕ)) (l z : Links) (a b c : Told) → ExchangedInTurn run frames l z → saves_last (run_after run frames).phase ≡ true → KeepsOf run a b run.kept → OldOrNew b c (run_after run frames).kept
     → KeepsNow a c run.kept ⊎ KeepsNow a c (run_after run frames).kept
 keeps_either run frames l z a b c went saving first last = by (saves_first run.phase) refl first last
   where
@@ -139,15 +139,15 @@ abbrev seen_after : Run → List (List ℕ) → KeptState
 seen_after run frames = (run_after run frames).kept
 
 -- an outcome that was reached
-reached : (run : Run) (frames : List (List ℕ)) (a z : Scene) (end : ClientEnd) (o : Outcome) → Went run frames (links a.lead a.follow) (links z.lead z.follow) → ended_of run frames ≡ Some o
-    → ((f : _) → o ≡ Failed f → KeepsOf run a.kept z.kept run.kept) → KeepsOf run a.kept z.kept (seen_after run frames) → Comes o a.written z.written end → Goes run a z end
-reached run frames a z end (Posted doc number) went is failed kept comes = Came frames (Posted doc number) went is tt kept comes
-reached run frames a z end (Removed doc number) went is failed kept comes = Came frames (Removed doc number) went is tt kept comes
-reached run frames a z end (Accepted answer) went is failed kept comes = Came frames (Accepted answer) went is tt kept comes
-reached run frames a z end NothingPending went is failed kept comes = Came frames NothingPending went is tt kept comes
-reached run frames a z end (Lengths lead follow seen) went is failed kept comes = Came frames (Lengths lead follow seen) went is tt kept comes
-reached run frames a z end (Rotated epoch) went is failed kept comes = Came frames (Rotated epoch) went is tt kept comes
-reached run frames a z end (Failed f) went is failed kept comes = Fell frames f went is (failed f refl) comes.0 comes.1
+reached : (run : Run) (frames : List (List ℕ)) (a z : Scene) (end : ClientEnd) (o : Outcome) → ExchangedInTurn run frames (links a.lead a.follow) (links z.lead z.follow) → ended_of run frames ≡ Some o
+    → ((f : _) → o ≡ Failed f → KeepsOf run a.kept z.kept run.kept) → KeepsOf run a.kept z.kept (seen_after run frames) → OutcomePrints o a.written z.written end → CommandEnds run a z end
+reached run frames a z end (Posted doc number) went is failed kept comes = CommandPrinted frames (Posted doc number) went is tt kept comes
+reached run frames a z end (Removed doc number) went is failed kept comes = CommandPrinted frames (Removed doc number) went is tt kept comes
+reached run frames a z end (Accepted answer) went is failed kept comes = CommandPrinted frames (Accepted answer) went is tt kept comes
+reached run frames a z end NothingPending went is failed kept comes = CommandPrinted frames NothingPending went is tt kept comes
+reached run frames a z end (Lengths lead follow seen) went is failed kept comes = CommandPrinted frames (Lengths lead follow seen) went is tt kept comes
+reached run frames a z end (Rotated epoch) went is failed kept comes = CommandPrinted frames (Rotated epoch) went is tt kept comes
+reached run frames a z end (Failed f) went is failed kept comes = CommandFailed frames f went is (failed f refl) comes.0 comes.1
 
 saves_none : (p : Phase) (o : Outcome) (f : _) → outcome_at p ≡ Some o → o ≡ Failed f → saves_last p ≡ false
 saves_none (Updating e at) o f is e' = absurd (cc)
@@ -159,27 +159,27 @@ stays_if : (u : Bool) (b c : Told) (k : KeptState) → u ≡ false → KeepsIf u
 stays_if true b c k e p = absurd (cc)
 stays_if false b c k e p = p
 
-no_memory_only : (o : Outcome) (p : Phase) (written written' : Option (List ℕ)) (end : ClientEnd) → p ≡ fails fault.NoMemory → outcome_at p ≡ Some o → Comes o written written' end → Stays written written' × (end ≡ ends.NoMemory)
+no_memory_only : (o : Outcome) (p : Phase) (written written' : Option (List ℕ)) (end : ClientEnd) → p ≡ fails fault.NoMemory → outcome_at p ≡ Some o → OutcomePrints o written written' end → Stays written written' × (end ≡ ends.NoMemory)
 no_memory_only o p written written' end e is comes =
     let same : Some o ≡ Some (Failed fault.NoMemory) = sym is ∙ ap outcome_at e in
     let one : o ≡ Failed fault.NoMemory = cc in
-    subst (λ (x : Outcome). Comes x written written' end) one comes
+    subst (λ (x : Outcome). OutcomePrints x written written' end) one comes
 
 -- a member that was driven and closed went the whole way
-pub finishes : (run : Run) (m : Machine) (a z : Scene) (b : Told) (end : ClientEnd) → KeepsOf run a.kept b run.kept → Driven (quiet (first_of run)) (links a.lead a.follow) (links z.lead z.follow) m → Closes m b z.kept a.written z.written end → Goes run a z end
+pub finishes : (run : Run) (m : Machine) (a z : Scene) (b : Told) (end : ClientEnd) → KeepsOf run a.kept b run.kept → Driven (quiet (just_begun run)) (links a.lead a.follow) (links z.lead z.follow) m → Closes m b z.kept a.written z.written end → CommandEnds run a z end
 finishes run m a z b end first driven closes = by driven.goes.stands closes
   where
     frames : List (List ℕ)
     frames = driven.goes.frames
 
-    went : Went run frames (links a.lead a.follow) (links z.lead z.follow)
+    went : ExchangedInTurn run frames (links a.lead a.follow) (links z.lead z.follow)
     went = driven.goes.went
 
-    at_last : m ≡ next_of (run_after run frames) → Closes m b z.kept a.written z.written end → Goes run a z end
+    at_last : m ≡ going_on (run_after run frames) → Closes m b z.kept a.written z.written end → CommandEnds run a z end
     at_last same (SaveFailed due old_or_new stays is_end) =
         let saving : saves_last (run_after run frames).phase ≡ true = sym (ap (λ (x : Machine). x.unsaved) same) ∙ due in
         let o = last_outcome (run_after run frames).phase saving in
-        Unkept frames o.0 went o.1 o.2 (keeps_either run frames (links a.lead a.follow) (links z.lead z.follow) a.kept b z.kept went saving first (subst (λ (x : Machine). OldOrNew b z.kept x.run.kept) same old_or_new)) stays is_end
+        LastSaveFailed frames o.0 went o.1 o.2 (keeps_either run frames (links a.lead a.follow) (links z.lead z.follow) a.kept b z.kept went saving first (subst (λ (x : Machine). OldOrNew b z.kept x.run.kept) same old_or_new)) stays is_end
     at_last same (SaveDone o is kept comes) =
         let is' : outcome_at (run_after run frames).phase ≡ Some o = sym (ap (λ (x : Machine). outcome_at x.run.phase) same) ∙ is in
         let kept' : KeepsIf (saves_last (run_after run frames).phase) b z.kept (run_after run frames).kept = subst (λ (x : Machine). KeepsIf x.unsaved b z.kept x.run.kept) same kept in
@@ -187,7 +187,7 @@ finishes run m a z b end first driven closes = by driven.goes.stands closes
         (λ f e. keeps_first run a.kept b z.kept first (stays_if (saves_last (run_after run frames).phase) b z.kept (run_after run frames).kept (saves_none (run_after run frames).phase o f is' e) kept'))
         (keeps_last run frames (links a.lead a.follow) (links z.lead z.follow) a.kept b z.kept went first kept') comes
 
-    at_first : frames ≡ [] → m ≡ quiet (first_of run) → Closes m b z.kept a.written z.written end → Goes run a z end
+    at_first : frames ≡ [] → m ≡ quiet (just_begun run) → Closes m b z.kept a.written z.written end → CommandEnds run a z end
     at_first none same (SaveFailed due old_or_new stays is_end) = absurd (let still : m.unsaved ≡ false = ap (λ (x : Machine). x.unsaved) same in cc)
     at_first none same (SaveDone o is kept comes) =
         let back : run_after run frames ≡ run = ap (run_after run) none in
@@ -196,7 +196,7 @@ finishes run m a z b end first driven closes = by driven.goes.stands closes
         let kept' : KeepsOf run a.kept z.kept run.kept = keeps_first run a.kept b z.kept first stays in
         reached run frames a z end o went is' (λ f e. kept') (subst (λ (r : Run). KeepsOf run a.kept z.kept r.kept) (sym back) kept') comes
 
-    by : StandsAt (quiet (first_of run)) m frames ⊎ ((m.run.phase ≡ fails fault.NoMemory) × (m.unsaved ≡ false)) → Closes m b z.kept a.written z.written end → Goes run a z end
+    by : StandsAt (quiet (just_begun run)) m frames ⊎ ((m.run.phase ≡ fails fault.NoMemory) × (m.unsaved ≡ false)) → Closes m b z.kept a.written z.written end → CommandEnds run a z end
     by (inl (inl (none, same))) c = at_first none same c
     by (inl (inr same)) c = at_last same c
     by (inr (out, quiet_now)) (SaveFailed due old_or_new stays is_end) = absurd (cc)
@@ -214,12 +214,12 @@ has_outcome (Searching q None) h = absurd (cc)
 has_outcome (Searching q (Some lead)) h = absurd (cc)
 has_outcome (Ended o) h = (o, refl)
 
-by_turn : (m : Machine) (u : Bool) (o : Option Asking) → m.unsaved ≡ u → asks m.run.phase ≡ o → u ≡ false → is_asking (if u then Saves else asks_next m.run o) ≡ false → asks m.run.phase ≡ None
+by_turn : (m : Machine) (u : Bool) (o : Option Ask) → m.unsaved ≡ u → asks m.run.phase ≡ o → u ≡ false → waits_for_reply (if u then Saves else asks_next m.run o) ≡ false → asks m.run.phase ≡ None
 by_turn m true o e i s h = absurd (cc)
 by_turn m false None e i s h = i
 by_turn m false (Some ask) e i s h = absurd (cc)
 
-quiet_asks : (m : Machine) → m.unsaved ≡ false → is_asking (turn_of m) ≡ false → asks m.run.phase ≡ None
+quiet_asks : (m : Machine) → m.unsaved ≡ false → waits_for_reply (turn_of m) ≡ false → asks m.run.phase ≡ None
 quiet_asks m e h = by_turn m m.unsaved (asks m.run.phase) refl refl e h
 
 saving_asks : (p : Phase) → saves_last p ≡ true → asks p ≡ None
@@ -232,7 +232,7 @@ saving_asks (Ended o) h = refl
 pub asks_nothing : (began m : Machine) (a z : Links) → began.unsaved ≡ false → Driven began a z m → asks m.run.phase ≡ None
 asks_nothing began m a z quiet_first d = by d.goes.stands
   where
-    at_last : (r : Run) → m ≡ next_of r → (u : Bool) → saves_last r.phase ≡ u → asks m.run.phase ≡ None
+    at_last : (r : Run) → m ≡ going_on r → (u : Bool) → saves_last r.phase ≡ u → asks m.run.phase ≡ None
     at_last r same true e = ap (λ (x : Machine). asks x.run.phase) same ∙ saving_asks r.phase e
     at_last r same false e = quiet_asks m (ap (λ (x : Machine). x.unsaved) same ∙ e) d.still
 
@@ -243,28 +243,28 @@ asks_nothing began m a z quiet_first d = by d.goes.stands
 
 -- ---- how a command begins
 
-began_run : (r : Result Run Fault) (m : Machine) → begins r ≡ Ok m → (run : Run) × (r ≡ Ok run) × (m ≡ first_of run)
+began_run : (r : Result Run Fault) (m : Machine) → begins r ≡ Ok m → (run : Run) × (r ≡ Ok run) × (m ≡ just_begun run)
 began_run (Ok run) m e = (run, refl, cc)
 began_run (Err f) m e = absurd (cc)
 
 -- a member that begins stands at the first of its run
-pub stands_first : (r : Result Run Fault) (m : Machine) → begins r ≡ Ok m → m ≡ first_of m.run
+pub stands_first : (r : Result Run Fault) (m : Machine) → begins r ≡ Ok m → m ≡ just_begun m.run
 stands_first r m e =
     let b = began_run r m e in
-    b.2 ∙ ap first_of (sym (ap (λ (x : Machine). x.run) b.2))
+    b.2 ∙ ap just_begun (sym (ap (λ (x : Machine). x.run) b.2))
 
 -- a command that went on from its beginning
-pub goes_from : (k : KeptState) (seed : List ℕ) (c : Command) (m : Machine) (a z : Scene) (end : ClientEnd) → begins (begun k seed c) ≡ Ok m → Goes m.run a z end → GoesFrom k seed c a z end
+pub goes_from : (k : KeptState) (seed : List ℕ) (c : Command) (m : Machine) (a z : Scene) (end : ClientEnd) → begins (begun k seed c) ≡ Ok m → CommandEnds m.run a z end → CommandEndsFrom k seed c a z end
 goes_from k seed c m a z end e goes =
     let b = began_run (begun k seed c) m e in
-    IsBegun b.0 b.1 (subst (λ (r : Run). Goes r a z end) (ap (λ (x : Machine). x.run) b.2) goes)
+    IsBegun b.0 b.1 (subst (λ (r : Run). CommandEnds r a z end) (ap (λ (x : Machine). x.run) b.2) goes)
 
 refused_so : (r : Result Run Fault) (f : Fault) → begins r ≡ Err f → r ≡ Err f
 refused_so (Ok run) f e = absurd (cc)
 refused_so (Err g) f e = let same : g ≡ f = cc in ap (λ (x : Fault). Err x) same
 
 -- a command that didn't begin
-pub not_begun : (k : KeptState) (seed : List ℕ) (c : Command) (a z : Scene) (f : Fault) → IsRefused f (begins (begun k seed c)) → IsUntouched a z → GoesFrom k seed c a z (end_of f)
+pub not_begun : (k : KeptState) (seed : List ℕ) (c : Command) (a z : Scene) (f : Fault) → IsRefused f (begins (begun k seed c)) → IsUntouched a z → CommandEndsFrom k seed c a z (fault_end f)
 not_begun k seed c a z fault.NoMemory e same = NoRoom same refl
 not_begun k seed c a z (fault.Check x) e same = NotBegun (fault.Check x) (refused_so (begun k seed c) (fault.Check x) e) same refl
 not_begun k seed c a z (fault.Unconfirmed side want got) e same = NotBegun (fault.Unconfirmed side want got) (refused_so (begun k seed c) (fault.Unconfirmed side want got) e) same refl
@@ -283,9 +283,9 @@ pub untouched : (a : Scene) → IsUntouched a a
 untouched a = record { asked = (refl, refl); kept = stays_same a.kept; wrote = stays_same a.written }
 
 -- a first save of a member that begins
-pub kept_first : (m : Machine) (a b : Told) → m ≡ first_of m.run → KeepsIf m.unsaved a b m.run.kept → KeepsOf m.run a b m.run.kept
+pub kept_first : (m : Machine) (a b : Told) → m ≡ just_begun m.run → KeepsIf m.unsaved a b m.run.kept → KeepsOf m.run a b m.run.kept
 kept_first m a b is kept = subst (λ (x : Machine). KeepsIf x.unsaved a b x.run.kept) is kept
 
 -- a member that was driven after its first save
-pub driven_first : (m saved now : Machine) (a z : Links) → m ≡ first_of m.run → saved ≡ quiet m → Driven saved a z now → Driven (quiet (first_of m.run)) a z now
+pub driven_first : (m saved now : Machine) (a z : Links) → m ≡ just_begun m.run → saved ≡ quiet m → Driven saved a z now → Driven (quiet (just_begun m.run)) a z now
 driven_first m saved now a z is same driven = subst (λ (x : Machine). Driven x a z now) (same ∙ ap quiet is) driven

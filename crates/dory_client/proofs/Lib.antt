@@ -12,7 +12,7 @@ pub mod Committed
 pub mod Updates
 pub mod Done
 pub mod Beginnings
-pub mod Does
+pub mod EffectLaws
 pub mod Replied
 pub mod Complete
 pub mod Acting
@@ -20,6 +20,6 @@ pub mod SearchEnds
 pub mod Confirming
 pub mod Finishes
 pub mod Endings
-pub mod Leaving
-pub mod Writing
-pub mod Putting
+pub mod KeptLaws
+pub mod PrintLaws
+pub mod AskLaws

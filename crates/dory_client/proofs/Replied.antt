@@ -9,8 +9,8 @@ use Rattle.dory_wire.specs.declared.message.Want.TheVariants.{Latest, Search, Wh
 use Rattle.dory_wire.specs.declared.message.What.{What}
 use Rattle.dory_wire.specs.declared.message.Request.{Request}
 use Rattle.dory_wire.specs.Reading.{reply_in}
-use Rattle.dory_link.specs.Told.{Told, IsReadAt, AnswersTo, IsAnswer, GrownFrom, Grown, Grows}
-use Rattle.dory_client.specs.Asked.{Replies}
+use Rattle.dory_link.specs.Told.{Told, IsReadAt, IsReplyTo, IsFolderReply, GrownFrom, Grown, Grows}
+use Rattle.dory_client.specs.Asked.{HasReply}
 use Rattle.dory_client.specs.Complete.{TellsFolder}
 
 -- a frame answers a request by one of the histories between these two
@@ -47,7 +47,7 @@ IsReading (Stage e) = ⊥
 IsReading (Order id) = ⊥
 IsReading (Follow number id) = ⊥
 
-read_at : (x y : Told) (want : Want) (what : What) → IsReading want → AnswersTo x y want what → (h : List Entry) × IsReadAt x y want what h
+read_at : (x y : Told) (want : Want) (what : What) → IsReading want → IsReplyTo x y want what → (h : List Entry) × IsReadAt x y want what h
 read_at x y Latest what reads a = a
 read_at x y (Search number asked keys) what reads a = a
 read_at x y (Which number) what reads a = absurd reads
@@ -55,15 +55,15 @@ read_at x y (Stage e) what reads a = absurd reads
 read_at x y (Order id) what reads a = absurd reads
 read_at x y (Follow number id) what reads a = absurd reads
 
-by_folder : (before now : Option Told) (x y : Told) (request : Request) (what : What) (frame : List ℕ) → IsReading request.want → before ≡ Some x → now ≡ Some y → reply_in frame ≡ Some (record { ask = request.ask; what = what }) → IsAnswer before now request.want what → IsReplied x y request frame
+by_folder : (before now : Option Told) (x y : Told) (request : Request) (what : What) (frame : List ℕ) → IsReading request.want → before ≡ Some x → now ≡ Some y → reply_in frame ≡ Some (record { ask = request.ask; what = what }) → IsFolderReply before now request.want what → IsReplied x y request frame
 by_folder before now x y request what frame reads e i replied answer =
-    let by : IsAnswer (Some x) (Some y) request.want what =
-    subst (λ (o : Option Told). IsAnswer o (Some y) request.want what) e (subst (λ (o : Option Told). IsAnswer before o request.want what) i answer) in
+    let by : IsFolderReply (Some x) (Some y) request.want what =
+    subst (λ (o : Option Told). IsFolderReply o (Some y) request.want what) e (subst (λ (o : Option Told). IsFolderReply before o request.want what) i answer) in
     let at = read_at x y request.want what reads by in
     record { what = what; history = at.0; replied = replied; at = at.1 }
 
 -- what came over a link that tells the folder
-pub replied_by : (before now : Option (ℕ → Option Told)) (x y : Told) (request : Request) (frame : List ℕ) → IsReading request.want → TellsFolder before request.folder.0 x → TellsFolder now request.folder.0 y → Replies before now request frame → IsReplied x y request frame
+pub replied_by : (before now : Option (ℕ → Option Told)) (x y : Told) (request : Request) (frame : List ℕ) → IsReading request.want → TellsFolder before request.folder.0 x → TellsFolder now request.folder.0 y → HasReply before now request frame → IsReplied x y request frame
 replied_by None now x y request frame reads told told' replies = absurd told
 replied_by (Some before) None x y request frame reads told told' replies = absurd replies
 replied_by (Some before) (Some now) x y request frame reads told told' (what, replied, by) =

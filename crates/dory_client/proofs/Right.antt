@@ -23,7 +23,7 @@ use Rattle.dory_wire.specs.declared.message.Want.TheVariants.{Search}
 use Rattle.dory_wire.specs.Reading.{reply_in}
 use Rattle.dory_wire.specs.Read.{search_of, IsReadAs, oldest_of, found_of}
 use Rattle.dory_wire.proofs.Fields.{IsBytes}
-use Rattle.dory_link.specs.Told.{Told, Talk, Heard, IsAnswer, Grown, Grows}
+use Rattle.dory_link.specs.Told.{Told, Talk, Heard, IsFolderReply, Grown, Grows}
 use Rattle.dory_verify.specs.declared.answer.Answer.{Answer}
 use Rattle.dory_verify.specs.Honest.{IsFoundIn, IsSearch, IsRightOrForged, found_by}
 use Rattle.dory_verify.proofs.Beside.{answered_beside_lead, answered_beside_follow}
@@ -31,10 +31,10 @@ use Rattle.dory_verify.proofs.CheckLaws.{checked_ok}
 use Rattle.dory_state.specs.declared.kept.KeptState.{KeptState}
 use Rattle.dory_state.specs.Spelling.{IsKeptState}
 use Rattle.dory_member.specs.Course.{folder_keys}
-use Rattle.dory_client.specs.Sought.{ask_of, columns_of, searching, sought_of}
+use Rattle.dory_client.specs.Sought.{ask_of, sought_columns, searching, sought_of}
 use Rattle.dory_client.proofs.Course.{Answered}
-use Rattle.dory_client.specs.Asked.{GrewBy, Replies}
-use Rattle.dory_client.specs.Headline.{Part, LastCame, IsExactBeside, IsRightOf, IsRightBy, lead_part, follow_part}
+use Rattle.dory_client.specs.Asked.{GrewBy, HasReply}
+use Rattle.dory_client.specs.Headline.{SidePart, LastCame, IsExactBeside, IsRightOf, IsRightBy, lead_part, follow_part}
 
 nat_both : (a b c : ℕ) → (nat_le a b && nat_le b c) ≡ true → b ≤ c
 nat_both a b c h = grind (arith, nat_tests)
@@ -79,24 +79,24 @@ pub found_same : (history : List Entry) (version : ℕ) (keys : List PointKey) �
 found_same history version keys = ap (with_sums history version) (sums_same (sum_of (table_of (version_of version history))) shares_of keys)
 
 -- the keys that are drawn for a word are pairs at its columns
-pub pairs_are : (state : KeptState) (seed word : List ℕ) → IsKeptState state → ArePairs (2 ^ state.shape.depth) (columns_of state word) (map shares_of (sought_of state seed word).lead) (map shares_of (sought_of state seed word).follow)
+pub pairs_are : (state : KeptState) (seed word : List ℕ) → IsKeptState state → ArePairs (2 ^ state.shape.depth) (sought_columns state word) (map shares_of (sought_of state seed word).lead) (map shares_of (sought_of state seed word).follow)
 pairs_are state seed word kept =
-    pairs_of state.shape.depth seed state.next_serial 0 (columns_of state word) (omega (arith, kept.shape.low)) (within (hmac (folder_keys state).word word) state.shape.depth 0 state.shape.probes)
+    pairs_of state.shape.depth seed state.next_serial 0 (sought_columns state word) (omega (arith, kept.shape.low)) (within (hmac (folder_keys state).word word) state.shape.depth 0 state.shape.probes)
 
 -- a search of a word in a history whose version is sealed
 pub is_search : (state : KeptState) (seed word : List ℕ) (history : List Entry) (version : ℕ) → IsKeptState state → IsHistory state.shape history → AllByRecursion (IsSealed (folder_keys state)) (version_of version history)
-    → IsSearch (folder_keys state) state.shape history version word (columns_of state word) (map shares_of (sought_of state seed word).lead) (map shares_of (sought_of state seed word).follow)
+    → IsSearch (folder_keys state) state.shape history version word (sought_columns state word) (map shares_of (sought_of state seed word).lead) (map shares_of (sought_of state seed word).follow)
 is_search state seed word history version kept is sealed = record { history_is = is; sealed = sealed; columns_are = refl; pairs = pairs_are state seed word kept }
 
 -- ---- what is right at a history, by its link
 
 -- what has to be shown of a history at which the domain found this
-abbrev IsShownAt : Part → KeptState → List ℕ → ℕ → List PointKey → Found → Answer → Type 0
+abbrev IsShownAt : SidePart → KeptState → List ℕ → ℕ → List PointKey → Found → Answer → Type 0
 IsShownAt other state word version keys f answer =
     (history : List Entry) → IsHistory state.shape history → f ≡ found_by history version (map shares_of keys) → AllByRecursion (IsSealed (folder_keys state)) (version_of answer.version history)
     → IsExactBeside other.now other state word history answer
 
-right_of : (before now : Option Told) (other : Part) (state : KeptState) (word : List ℕ) (version : ℕ) (keys : List PointKey) (f : Found) (answer : Answer) → IsAnswer before now (Search version state.shape keys) (Finds f) → state.seen ≤ version → answer.version ≡ version
+right_of : (before now : Option Told) (other : SidePart) (state : KeptState) (word : List ℕ) (version : ℕ) (keys : List PointKey) (f : Found) (answer : Answer) → IsFolderReply before now (Search version state.shape keys) (Finds f) → state.seen ≤ version → answer.version ≡ version
     → IsShownAt other state word version keys f answer → IsRightOf before now other state word answer
 right_of None now other state word version keys f answer by fresh named shown = absurd (let e : Finds f ≡ Refused NoFolder = by in cc)
 right_of (Some before) None other state word version keys f answer by fresh named shown = absurd by
@@ -116,18 +116,18 @@ told : (w : What) (f : Found) (frame : List ℕ) (ask : AskId) → reply_in fram
 told w f frame ask replied (reply, is, what_is) = cc
 
 -- what an ask for a search brought is right by its link
-right_ask : (before now : Option (ℕ → Option Told)) (other : Part) (state : KeptState) (word : List ℕ) (step version : ℕ) (keys : List PointKey) (frame : List ℕ) (f : Found) (answer : Answer) → Replies before now (searching state step version keys) frame → IsFoundIn frame f → state.seen ≤ version → answer.version ≡ version
+right_ask : (before now : Option (ℕ → Option Told)) (other : SidePart) (state : KeptState) (word : List ℕ) (step version : ℕ) (keys : List PointKey) (frame : List ℕ) (f : Found) (answer : Answer) → HasReply before now (searching state step version keys) frame → IsFoundIn frame f → state.seen ≤ version → answer.version ≡ version
     → IsShownAt other state word version keys f answer → IsRightBy before now other state word answer
 right_ask None now other state word step version keys frame f answer replies in' fresh named shown = tt
 right_ask (Some before) None other state word step version keys frame f answer replies in' fresh named shown = absurd replies
 right_ask (Some before) (Some now) other state word step version keys frame f answer (what, replied, by) in' fresh named shown =
     let same : what ≡ Finds f = told what f frame (ask_of state step) replied in' in
-    right_of (before state.folder.0) (now state.folder.0) other state word version keys f answer (subst (IsAnswer (before state.folder.0) (now state.folder.0) (Search version state.shape keys)) same by) fresh named shown
+    right_of (before state.folder.0) (now state.folder.0) other state word version keys f answer (subst (IsFolderReply (before state.folder.0) (now state.folder.0) (Search version state.shape keys)) same by) fresh named shown
 
 prefix_of : (a b c : List Entry) → IsPrefix a b → IsPrefix b c → IsPrefix a c
 prefix_of a b c (xs, p) (ys, q) = (xs ++ ys, q ∙ ap (λ v. v ++ ys) p ∙ append_assoc a xs ys)
 
-earlier_of : (a b c : Option Told) (other : Part) (state : KeptState) (word : List ℕ) (answer : Answer) → Grown a b → IsRightOf b c other state word answer → IsRightOf a c other state word answer
+earlier_of : (a b c : Option Told) (other : SidePart) (state : KeptState) (word : List ℕ) (answer : Answer) → Grown a b → IsRightOf b c other state word answer → IsRightOf a c other state word answer
 earlier_of None None c other state word answer g r = absurd r
 earlier_of None (Some b) c other state word answer g r = absurd g
 earlier_of (Some a) None c other state word answer g r = absurd g
@@ -136,7 +136,7 @@ earlier_of (Some a) (Some b) (Some c) other state word answer g r =
     record { history = r.history; later = prefix_of a.history b.history r.history g.history r.later; earlier = r.earlier; committed = r.committed; fresh = r.fresh; exact = r.exact }
 
 -- what is right from a later moment on is right from an earlier one
-earlier : (a b c : Option (ℕ → Option Told)) (other : Part) (state : KeptState) (word : List ℕ) (answer : Answer) → Grows a b → IsRightBy b c other state word answer → IsRightBy a c other state word answer
+earlier : (a b c : Option (ℕ → Option Told)) (other : SidePart) (state : KeptState) (word : List ℕ) (answer : Answer) → Grows a b → IsRightBy b c other state word answer → IsRightBy a c other state word answer
 earlier None b c other state word answer g r = tt
 earlier (Some a) None c other state word answer g r = absurd g
 earlier (Some a) (Some b) None other state word answer g r = absurd r
@@ -151,13 +151,13 @@ grew_twice (Some a) (Some b) None x y p q = absurd q
 grew_twice (Some a) (Some b) (Some c) x y p q = q ∙ ap (λ (v : List Talk). v ++ y ∷ []) p ∙ append_assoc a (x ∷ []) (y ∷ [])
 
 -- what is right or the forgery, beside what came last
-beside : (now : Option (List Talk)) (other : Part) (state : KeptState) (word : List ℕ) (history : List Entry) (answer : Answer) (version : ℕ) (frame : List ℕ) → answer.version ≡ version → LastCame other state version frame
-    → IsRightOrForged (folder_keys state) state.shape history version word (columns_of state word) (map shares_of other.keys) frame answer.docs → IsExactBeside now other state word history answer
+beside : (now : Option (List Talk)) (other : SidePart) (state : KeptState) (word : List ℕ) (history : List Entry) (answer : Answer) (version : ℕ) (frame : List ℕ) → answer.version ≡ version → LastCame other state version frame
+    → IsRightOrForged (folder_keys state) state.shape history version word (sought_columns state word) (map shares_of other.keys) frame answer.docs → IsExactBeside now other state word history answer
 beside None other state word history answer version frame named came right = tt
 beside (Some talks) other state word history answer version frame named came right = (
   frame,
   subst (λ (v : ℕ). LastCame other state v frame) (sym named) came,
-  subst (λ (v : ℕ). IsRightOrForged (folder_keys state) state.shape history v word (columns_of state word) (map shares_of other.keys) frame answer.docs) (sym named) right,
+  subst (λ (v : ℕ). IsRightOrForged (folder_keys state) state.shape history v word (sought_columns state word) (map shares_of other.keys) frame answer.docs) (sym named) right,
 )
 
 -- ---- an answered search is right by each link
@@ -166,7 +166,7 @@ pub right_lead : (lead lead' follow follow' : Heard) (state : KeptState) (seed w
     → IsRightBy lead.folders lead'.folders (follow_part follow follow' state seed word) state word answer
 right_lead lead lead' follow follow' state seed word answer kept (both, version, s, lists) =
     let keys = folder_keys state in
-    let columns = columns_of state word in
+    let columns = sought_columns state word in
     let sought = sought_of state seed word in
     let from_lead = s.second.from_lead in
     let from_follow = s.second.from_follow in
@@ -188,7 +188,7 @@ pub right_follow : (lead lead' follow follow' : Heard) (state : KeptState) (seed
     → IsRightBy follow.folders follow'.folders (lead_part lead lead' state seed word) state word answer
 right_follow lead lead' follow follow' state seed word answer kept (both, version, s, lists) =
     let keys = folder_keys state in
-    let columns = columns_of state word in
+    let columns = sought_columns state word in
     let sought = sought_of state seed word in
     let from_lead = s.second.from_lead in
     let from_follow = s.second.from_follow in
@@ -209,5 +209,5 @@ right_follow lead lead' follow follow' state seed word answer kept (both, versio
 -- the version of an answer isn't older than what was seen
 pub answered_fresh : (lead lead' follow follow' : Heard) (state : KeptState) (seed word : List ℕ) (answer : Answer) → Answered lead lead' follow follow' state (sought_of state seed word) answer → state.seen ≤ answer.version
 answered_fresh lead lead' follow follow' state seed word answer (both, version, s, lists) =
-    let ok = checked_ok (folder_keys state) (columns_of state word) version state.seen (ask_of state 2) (ask_of state 3) s.second.from_lead s.second.from_follow both.0 both.1 s.second.asked_lead.are_bytes s.second.asked_follow.are_bytes s.second.checked in
+    let ok = checked_ok (folder_keys state) (sought_columns state word) version state.seen (ask_of state 2) (ask_of state 3) s.second.from_lead s.second.from_follow both.0 both.1 s.second.asked_lead.are_bytes s.second.asked_follow.are_bytes s.second.checked in
     subst (λ (v : ℕ). state.seen ≤ v) (sym lists.named) ok.one.fresh

@@ -34,11 +34,11 @@ use Rattle.dory_member.specs.declared.phase.Run.{Run}
 use Rattle.dory_member.specs.declared.phase.Single.TheVariants as single
 use Rattle.dory_member.specs.declared.phase.UpdateStep.{UpdateStep}
 use Rattle.dory_member.specs.declared.phase.UpdateStep.TheVariants.{StageFollow, StageLead, OrderLead, FollowOn, WhichOther, FollowOther}
-use Rattle.dory_member.specs.Course.{Ask as Asking, after_fault, after_mark, after_refused, after_update, asks, ended_of, fails, finished, kept_at, name, outcome_at, phase_after, request_of, run_after, side_of, single_of, to, took, updated, want_of}
+use Rattle.dory_member.specs.Course.{Ask, after_fault, after_mark, after_refused, after_update, asks, ended_of, fails, finished, kept_at, name, outcome_at, phase_after, ask_request, run_after, side_of, single_of, to, took, updated, want_of}
 use Rattle.dory_member.specs.Single.{confirmed, mark, said}
-use Rattle.dory_member.proofs.HeardLaws.{heard}
-use Rattle.dory_client.specs.Confirmed.{HasAt, ToldAt}
-use Rattle.dory_client.specs.Way.{Links, AskOver, Turned, Went}
+use Rattle.dory_member.proofs.ConfirmationLaws.{heard}
+use Rattle.dory_client.specs.CallEffects.{HasAt, ToldAt}
+use Rattle.dory_client.specs.Way.{Links, ExchangedOver, RunExchanged, ExchangedInTurn}
 use Rattle.dory_client.proofs.Committed.{told_has, has_more}
 
 -- the links told from the beginning a of a command to now z, the lead has the update of this id at this number
@@ -115,13 +115,13 @@ grow_twice a b c p q = record {
   follow = grows_twice a.follow.folders b.follow.folders c.follow.folders p.follow q.follow;
 }
 
-over_grows : (s : Side) (m z : Links) (r : Request) (frame : List ℕ) → AskOver s m z r frame → Grow m z
+over_grows : (s : Side) (m z : Links) (r : Request) (frame : List ℕ) → ExchangedOver s m z r frame → Grow m z
 over_grows side.Lead m z r frame (ask, same) = record { lead = ask.grown; follow = subst (λ (h : Heard). Grows m.follow.folders h.folders) (sym same) (grows_same m.follow.folders) }
 over_grows side.Follow m z r frame (same, ask) = record { lead = subst (λ (h : Heard). Grows m.lead.folders h.folders) (sym same) (grows_same m.lead.folders); follow = ask.grown }
 
-pub turned_grows : (run : Run) (o : Option Asking) (m z : Links) (frame : List ℕ) → Turned run o m z frame → Grow m z
+pub turned_grows : (run : Run) (o : Option Ask) (m z : Links) (frame : List ℕ) → RunExchanged run o m z frame → Grow m z
 turned_grows run None m z frame t = absurd t
-turned_grows run (Some ask) m z frame t = over_grows ask.side m z (request_of run ask) frame t
+turned_grows run (Some ask) m z frame t = over_grows ask.side m z (ask_request run ask) frame t
 
 -- ---- what a told domain has, from an earlier beginning and to a later end
 
@@ -258,20 +258,20 @@ step_later folder a m z id (FollowOn number repaired) g h = told_later a.lead.fo
 step_later folder a m z id (WhichOther number at) g h = told_later a.lead.folders m.lead.folders z.lead.folders folder number id g.lead h
 step_later folder a m z id (FollowOther number at other) g h = told_later a.lead.folders m.lead.folders z.lead.folders folder number id g.lead h
 
-mark_at : (a m z : Links) (run : Run) (e : Entry) (at : UpdateStep) (frame : List ℕ) (k : Mark) → Grow a m → AtStep run.kept.folder.0 a m e.id at → AskOver (side_of at) m z (request_of run (to (side_of at) (want_of e (single_of e.id at)))) frame
+mark_at : (a m z : Links) (run : Run) (e : Entry) (at : UpdateStep) (frame : List ℕ) (k : Mark) → Grow a m → AtStep run.kept.folder.0 a m e.id at → ExchangedOver (side_of at) m z (ask_request run (to (side_of at) (want_of e (single_of e.id at)))) frame
     → confirmed (side_of at) (single_of e.id at) (name run run.step) frame ≡ Ok k → At run.kept.folder.0 a z e (after_mark e at k)
 mark_at a m z run e StageFollow frame k g has over is = (refl, tt)
 mark_at a m z run e StageLead frame k g has over is = (refl, tt)
 mark_at a m z run e OrderLead frame k g has (ask, same) is =
     let h = heard side.Lead (single.Order e.id) (name run run.step) frame k is in
     let says : h.reply.what ≡ Committed k.number e.id = order_says side.Lead e.id h.reply.what k h.says in
-    let r : Request = request_of run (to side.Lead (want.Order e.id)) in
+    let r : Request = ask_request run (to side.Lead (want.Order e.id)) in
     let now : ToldAt m.lead.folders z.lead.folders run.kept.folder.0 k.number e.id = told_has m.lead.folders z.lead.folders r frame h.reply k.number e.id tt ask.replies h.came says in
     (refl, told_earlier a.lead.folders m.lead.folders z.lead.folders run.kept.folder.0 k.number e.id g.lead now)
 mark_at a m z run e (FollowOn number repaired) frame k g has (same, ask) is =
     let h = heard side.Follow (single.Follow number e.id) (name run run.step) frame k is in
     let says : h.reply.what ≡ Committed number e.id = follow_says side.Follow number e.id h.reply.what k h.says in
-    let r : Request = request_of run (to side.Follow (want.Follow number e.id)) in
+    let r : Request = ask_request run (to side.Follow (want.Follow number e.id)) in
     let now : ToldAt m.follow.folders z.follow.folders run.kept.folder.0 number e.id = told_has m.follow.folders z.follow.folders r frame h.reply number e.id ask.in_range.want.0.some ask.replies h.came says in
     let grows : Grow m z = over_grows side.Follow m z r frame (same, ask) in
     ended_at run.kept.folder.0 a z e e.change number refl (told_later a.lead.folders m.lead.folders z.lead.folders run.kept.folder.0 number e.id grows.lead has)
@@ -280,10 +280,10 @@ mark_at a m z run e (WhichOther number at) frame k g has over is = (refl, step_l
 mark_at a m z run e (FollowOther number at id) frame k g has over is =
     repaired_at (nat_lt (at + 1) number) run.kept.folder.0 a z e number at (step_later run.kept.folder.0 a m z e.id (FollowOther number at id) (over_grows side.Follow m z _ frame over) has)
 
-after_at : (a m z : Links) (run : Run) (e : Entry) (at : UpdateStep) (frame : List ℕ) (r : Result Mark Fault) → Grow a m → AtStep run.kept.folder.0 a m e.id at → AskOver (side_of at) m z (request_of run (to (side_of at) (want_of e (single_of e.id at)))) frame
+after_at : (a m z : Links) (run : Run) (e : Entry) (at : UpdateStep) (frame : List ℕ) (r : Result Mark Fault) → Grow a m → AtStep run.kept.folder.0 a m e.id at → ExchangedOver (side_of at) m z (ask_request run (to (side_of at) (want_of e (single_of e.id at)))) frame
     → confirmed (side_of at) (single_of e.id at) (name run run.step) frame ≡ r → At run.kept.folder.0 a z e (after_update e at r)
 after_at a m z run e at frame (Ok k) g has over is = mark_at a m z run e at frame k g has over is
-after_at a m z run e at frame (Err f) g has over is = fault_at run.kept.folder.0 a z e at f (step_later run.kept.folder.0 a m z e.id at (over_grows (side_of at) m z (request_of run (to (side_of at) (want_of e (single_of e.id at)))) frame over) has)
+after_at a m z run e at frame (Err f) g has over is = fault_at run.kept.folder.0 a z e at f (step_later run.kept.folder.0 a m z e.id at (over_grows (side_of at) m z (ask_request run (to (side_of at) (want_of e (single_of e.id at)))) frame over) has)
 
 -- ---- a whole update
 
@@ -303,13 +303,13 @@ kept_folder k (Searching q lead) = refl
 kept_folder k (Ended o) = ended_folder k o
 
 -- from a phase of an update to its end
-by_phase : (run : Run) (p : Phase) (frames : List (List ℕ)) (a m z : Links) (e : Entry) (o : Outcome) → run.phase ≡ p → Grow a m → At run.kept.folder.0 a m e p → Went run frames m z → outcome_at (run_after run frames).phase ≡ Some o → AtEnd run.kept.folder.0 a z e o × Grow a z
+by_phase : (run : Run) (p : Phase) (frames : List (List ℕ)) (a m z : Links) (e : Entry) (o : Outcome) → run.phase ≡ p → Grow a m → At run.kept.folder.0 a m e p → ExchangedInTurn run frames m z → outcome_at (run_after run frames).phase ≡ Some o → AtEnd run.kept.folder.0 a z e o × Grow a z
 by_phase run (Measuring word lead) frames a m z e o is g at went ends = absurd at
 by_phase run (Searching q lead) frames a m z e o is g at went ends = absurd at
 by_phase run (Updating e' at) [] a m z e o is g h went ends = absurd (let none : outcome_at run.phase ≡ None = ap outcome_at is in cc)
 by_phase run (Updating e' at) (f ∷ frames) a m z e o is g (same, has) (n, turned, more) ends =
-    let over : AskOver (side_of at) m n (request_of run (to (side_of at) (want_of e' (single_of e'.id at)))) f = subst (λ (p : Phase). Turned run (asks p) m n f) is turned in
-    let grows : Grow m n = over_grows (side_of at) m n (request_of run (to (side_of at) (want_of e' (single_of e'.id at)))) f over in
+    let over : ExchangedOver (side_of at) m n (ask_request run (to (side_of at) (want_of e' (single_of e'.id at)))) f = subst (λ (p : Phase). RunExchanged run (asks p) m n f) is turned in
+    let grows : Grow m n = over_grows (side_of at) m n (ask_request run (to (side_of at) (want_of e' (single_of e'.id at)))) f over in
     let has' : AtStep run.kept.folder.0 a m e'.id at = subst (λ (x : Entry). AtStep run.kept.folder.0 a m x.id at) (sym same) has in
     let next : At run.kept.folder.0 a n e' (phase_after run (Updating e' at) f) = after_at a m n run e' at f (confirmed (side_of at) (single_of e'.id at) (name run run.step) f) g has' over refl in
     let next' : At run.kept.folder.0 a n e (phase_after run run.phase f) = subst (λ (x : Entry). At run.kept.folder.0 a n x (phase_after run run.phase f)) same (subst (λ (p : Phase). At run.kept.folder.0 a n e' (phase_after run p f)) (sym is) next) in
@@ -320,8 +320,8 @@ by_phase run (Updating e' at) (f ∷ frames) a m z e o is g (same, has) (n, turn
 by_phase run (Ended x) [] a m z e o is g at went ends =
     let same : x ≡ o = let now : outcome_at run.phase ≡ Some x = ap outcome_at is in cc in
     (subst (λ (l : Links). AtEnd run.kept.folder.0 a l e o) (sym went) (subst (AtEnd run.kept.folder.0 a m e) same at), subst (Grow a) (sym went) g)
-by_phase run (Ended x) (f ∷ frames) a m z e o is g at (n, turned, more) ends = absurd (subst (λ (p : Phase). Turned run (asks p) m n f) is turned)
+by_phase run (Ended x) (f ∷ frames) a m z e o is g at (n, turned, more) ends = absurd (subst (λ (p : Phase). RunExchanged run (asks p) m n f) is turned)
 
 -- an update that ended stands at its number in both histories
-pub update_ended : (run : Run) (e : Entry) (frames : List (List ℕ)) (a z : Links) (o : Outcome) → run.phase ≡ Updating e StageFollow → Went run frames a z → ended_of run frames ≡ Some o → AtEnd run.kept.folder.0 a z e o × Grow a z
+pub update_ended : (run : Run) (e : Entry) (frames : List (List ℕ)) (a z : Links) (o : Outcome) → run.phase ≡ Updating e StageFollow → ExchangedInTurn run frames a z → ended_of run frames ≡ Some o → AtEnd run.kept.folder.0 a z e o × Grow a z
 update_ended run e frames a z o is went ends = by_phase run (Updating e StageFollow) frames a a z e o is (grow_same a) (refl, tt) went ends

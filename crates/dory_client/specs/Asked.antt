@@ -5,7 +5,7 @@ use Rattle.dory_wire.specs.declared.message.What.{What}
 use Rattle.dory_wire.specs.Frame.{frame_of}
 use Rattle.dory_wire.specs.Reading.{reply_in}
 use Rattle.dory_wire.specs.Spelling.{IsRequest, spelling_of_request}
-use Rattle.dory_link.specs.Told.{Told, Talk, talk, Heard, Grows, IsAnswer}
+use Rattle.dory_link.specs.Told.{Told, Talk, talk, Heard, Grows, IsFolderReply}
 
 -- the frame of a request
 abbrev pub request_frame : Request → List ℕ
@@ -26,16 +26,16 @@ abbrev pub spoke : Request → List ℕ → Talk
 spoke request frame = talk (request_frame request) (Some frame)
 
 -- the frame is what the folder answers to this request
-abbrev pub Replies : Option (ℕ → Option Told) → Option (ℕ → Option Told) → Request → List ℕ → Type 0
-Replies None now request frame = ⊤
-Replies (Some before) None request frame = ⊥
-Replies (Some before) (Some now) request frame =
-    (what : What) × (reply_in frame ≡ Some (record { ask = request.ask; what = what })) × IsAnswer (before request.folder.0) (now request.folder.0) request.want what
+abbrev pub HasReply : Option (ℕ → Option Told) → Option (ℕ → Option Told) → Request → List ℕ → Type 0
+HasReply None now request frame = ⊤
+HasReply (Some before) None request frame = ⊥
+HasReply (Some before) (Some now) request frame =
+    (what : What) × (reply_in frame ≡ Some (record { ask = request.ask; what = what })) × IsFolderReply (before request.folder.0) (now request.folder.0) request.want what
 
 -- a request was asked, and this frame came
-pub record Ask (before now : Heard) (request : Request) (frame : List ℕ) : Type 0 where
+pub record Exchanged (before now : Heard) (request : Request) (frame : List ℕ) : Type 0 where
   pub grew : GrewBy before.exchanges now.exchanges (spoke request frame ∷ [])
-  pub replies : Replies before.folders now.folders request frame
+  pub replies : HasReply before.folders now.folders request frame
   pub grown : Grows before.folders now.folders
   pub in_range : IsRequest request
   pub are_bytes : (i : ℕ) → slice_index frame i < 256

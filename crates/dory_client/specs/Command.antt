@@ -11,43 +11,43 @@ use Rattle.dory_client.specs.declared.start.Todo.{Todo}
 use Rattle.dory_client.specs.declared.start.Todo.TheVariants.{Post, Plain}
 use Rattle.dory_client.specs.declared.end.ClientEnd.{ClientEnd}
 use Rattle.dory_client.specs.declared.end.ClientEnd.TheVariants as ends
-use Rattle.dory_client.specs.Ends.{end_of, input_end}
+use Rattle.dory_client.specs.Ends.{fault_end, input_end}
 use Rattle.dory_client.specs.Input.{IsNoText, text_limit}
 use Rattle.dory_io.specs.Bytes.{Came, IsOver}
 use Rattle.dory_client.specs.Scene.{Input, IsUnread}
 use Rattle.dory_client.specs.Start.{command_of}
 
 -- the input was read to its end, and this is its text
-pub record WasText (i i' : Input) (text : List ℕ) : Type 0 where
-  pub came : Came i.left i'.left i.given i'.given text
+pub record WasText (input input' : Input) (text : List ℕ) : Type 0 where
+  pub came : Came input.left input'.left input.given input'.given text
   pub few : length text ≤ text_limit
-  pub over : IsOver i.left i'.left
+  pub over : IsOver input.left input'.left
 
 -- the row of the text that the input had, or why there is none
 abbrev pub HasRow : KeptState → Input → Input → Result (List Bool) ClientEnd → Type 0
-HasRow k i i' (Ok row) = (text : List ℕ) × WasText i i' text × (row ≡ plain_row_of (folder_keys k) k.shape (words_in text))
-HasRow k i i' (Err end) = ((e : InputEnd) × IsNoText i.left i'.left i.given i'.given e × (end ≡ input_end e)) ⊎ ((text : List ℕ) × WasText i i' text × (end ≡ ends.NoMemory))
+HasRow k input input' (Ok row) = (text : List ℕ) × WasText input input' text × (row ≡ plain_row_of (folder_keys k) k.shape (words_in text))
+HasRow k input input' (Err end) = ((e : InputEnd) × IsNoText input.left input'.left input.given input'.given e × (end ≡ input_end e)) ⊎ ((text : List ℕ) × WasText input input' text × (end ≡ ends.NoMemory))
 
 -- only a post reads the input
 abbrev pub HasText : Todo → Input → Input → List ℕ → Type 0
-HasText (Post doc) i i' text = WasText i i' text
-HasText (Plain c) i i' text = IsUnread i i'
+HasText (Post doc) input input' text = WasText input input' text
+HasText (Plain c) input input' text = IsUnread input input'
 
 -- the input was to be read, and this is why there is no text
 abbrev pub HasNoText : Todo → Input → Input → InputEnd → Type 0
-HasNoText (Post doc) i i' e = IsNoText i.left i'.left i.given i'.given e
-HasNoText (Plain c) i i' e = ⊥
+HasNoText (Post doc) input input' e = IsNoText input.left input'.left input.given input'.given e
+HasNoText (Plain c) input input' e = ⊥
 
 -- why there is no command
-pub data NoCommand (k : KeptState) (t : Todo) (i i' : Input) (end : ClientEnd) : Type 0 where
+pub data NoCommand (k : KeptState) (t : Todo) (input input' : Input) (end : ClientEnd) : Type 0 where
   -- it is refused, whatever the input is
-  Refused : (f : Fault) → ((seed : List ℕ) → begun k seed (command_of k [] t) ≡ Err f) → IsUnread i i' → end ≡ end_of f → NoCommand k t i i' end
+  Refused : (f : Fault) → ((seed : List ℕ) → begun k seed (command_of k [] t) ≡ Err f) → IsUnread input input' → end ≡ fault_end f → NoCommand k t input input' end
   -- the input failed or is too long, or memory ran out
-  NoText : (e : InputEnd) → HasNoText t i i' e → end ≡ input_end e → NoCommand k t i i' end
+  NoText : (e : InputEnd) → HasNoText t input input' e → end ≡ input_end e → NoCommand k t input input' end
   -- memory ran out after the text was read
-  NoRoom : (text : List ℕ) → HasText t i i' text → end ≡ ends.NoMemory → NoCommand k t i i' end
+  NoRoom : (text : List ℕ) → HasText t input input' text → end ≡ ends.NoMemory → NoCommand k t input input' end
 
 -- the command of what the input had, or why there is none
 abbrev pub HasCommand : KeptState → Todo → Input → Input → Result Command ClientEnd → Type 0
-HasCommand k t i i' (Ok c) = (text : List ℕ) × HasText t i i' text × (c ≡ command_of k text t)
-HasCommand k t i i' (Err end) = NoCommand k t i i' end
+HasCommand k t input input' (Ok c) = (text : List ℕ) × HasText t input input' text × (c ≡ command_of k text t)
+HasCommand k t input input' (Err end) = NoCommand k t input input' end

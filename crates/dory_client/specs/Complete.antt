@@ -52,44 +52,44 @@ pub record TellAlike (kept : Option (Option (List ℕ))) (lead lead' follow foll
   pub sealed : AllByRecursion (IsSealed (folder_keys state)) by_lead.folder_now.history
 
 -- the fault is that a domain refused
-abbrev pub IsRefusal : CheckFault → Type 0
-IsRefusal (fault.Refused side code) = ⊤
-IsRefusal (fault.Form side at) = ⊥
-IsRefusal (fault.Echo side asked got) = ⊥
-IsRefusal (fault.Stale side latest seen) = ⊥
-IsRefusal (fault.Version side asked got) = ⊥
-IsRefusal (fault.Manifest place) = ⊥
-IsRefusal (fault.Count side got want) = ⊥
-IsRefusal (fault.TagSum probe got want) = ⊥
+abbrev pub IsDomainRefusal : CheckFault → Type 0
+IsDomainRefusal (fault.Refused side code) = ⊤
+IsDomainRefusal (fault.Form side at) = ⊥
+IsDomainRefusal (fault.Echo side asked got) = ⊥
+IsDomainRefusal (fault.Stale side latest seen) = ⊥
+IsDomainRefusal (fault.Version side asked got) = ⊥
+IsDomainRefusal (fault.Manifest place) = ⊥
+IsDomainRefusal (fault.Count side got want) = ⊥
+IsDomainRefusal (fault.TagSum probe got want) = ⊥
 
 -- a search that nothing outside failed ends done, or by a refusal; memory may run out
-abbrev pub EndsWell : ClientEnd → Type 0
-EndsWell ends.Done = ⊤
-EndsWell (ends.Check f) = IsRefusal f
-EndsWell ends.NoMemory = ⊤
-EndsWell (ends.Usage fault) = ⊥
-EndsWell ends.NoState = ⊥
-EndsWell (ends.StateForm fault) = ⊥
-EndsWell ends.HasState = ⊥
-EndsWell ends.KeeperFault = ⊥
-EndsWell (ends.LinkFault side) = ⊥
-EndsWell ends.InputFault = ⊥
-EndsWell ends.InputLong = ⊥
-EndsWell ends.OutputFault = ⊥
-EndsWell (ends.Unconfirmed side want got) = ⊥
-EndsWell (ends.Diverged number lead_id follow_id) = ⊥
-EndsWell (ends.Unfinished id) = ⊥
-EndsWell ends.SerialEnd = ⊥
-EndsWell ends.EpochEnd = ⊥
+abbrev pub SearchEndsWell : ClientEnd → Type 0
+SearchEndsWell ends.Done = ⊤
+SearchEndsWell (ends.Check f) = IsDomainRefusal f
+SearchEndsWell ends.NoMemory = ⊤
+SearchEndsWell (ends.Usage fault) = ⊥
+SearchEndsWell ends.NoState = ⊥
+SearchEndsWell (ends.StateForm fault) = ⊥
+SearchEndsWell ends.HasState = ⊥
+SearchEndsWell ends.KeeperFault = ⊥
+SearchEndsWell (ends.LinkFault side) = ⊥
+SearchEndsWell ends.InputFault = ⊥
+SearchEndsWell ends.InputLong = ⊥
+SearchEndsWell ends.OutputFault = ⊥
+SearchEndsWell (ends.Unconfirmed side want got) = ⊥
+SearchEndsWell (ends.Diverged number lead_id follow_id) = ⊥
+SearchEndsWell (ends.Unfinished id) = ⊥
+SearchEndsWell ends.SerialEnd = ⊥
+SearchEndsWell ends.EpochEnd = ⊥
 
 -- the words are a search
-pub record IsSearch (words : List (List ℕ)) : Type 0 where
+pub record IsSearchLine (words : List (List ℕ)) : Type 0 where
   pub word : List ℕ
   pub is : line_of words ≡ Ok (Search word)
 
 -- the words are a search, a serial is left, and no count of faults rose in the call
 pub record Unhindered (words : List (List ℕ)) (state : KeptState) (keeper keeper' lead lead' follow follow' out out' : ℕ) : Type 0 where
-  pub searches : IsSearch words
+  pub searches : IsSearchLine words
   pub serial : is_last_serial state ≡ false
   pub keeper_worked : ¬ Rose keeper keeper'
   pub lead_worked : ¬ Rose lead lead'

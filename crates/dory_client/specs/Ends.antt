@@ -9,14 +9,14 @@ use Rattle.dory_client.specs.declared.end.ClientEnd.{ClientEnd}
 use Rattle.dory_client.specs.declared.end.ClientEnd.TheVariants as ends
 
 -- the end at a command's fault
-abbrev pub end_of : Fault → ClientEnd
-end_of (fault.Check f) = ends.Check f
-end_of (fault.Unconfirmed side want got) = ends.Unconfirmed side want got
-end_of (fault.Diverged number lead_id follow_id) = ends.Diverged number lead_id follow_id
-end_of (fault.Unfinished id) = ends.Unfinished id
-end_of fault.SerialEnd = ends.SerialEnd
-end_of fault.EpochEnd = ends.EpochEnd
-end_of fault.NoMemory = ends.NoMemory
+abbrev pub fault_end : Fault → ClientEnd
+fault_end (fault.Check f) = ends.Check f
+fault_end (fault.Unconfirmed side want got) = ends.Unconfirmed side want got
+fault_end (fault.Diverged number lead_id follow_id) = ends.Diverged number lead_id follow_id
+fault_end (fault.Unfinished id) = ends.Unfinished id
+fault_end fault.SerialEnd = ends.SerialEnd
+fault_end fault.EpochEnd = ends.EpochEnd
+fault_end fault.NoMemory = ends.NoMemory
 
 -- the end where a text wasn't read
 abbrev pub input_end : InputEnd → ClientEnd
@@ -25,8 +25,8 @@ input_end input.Long = ends.InputLong
 input_end input.NoMemory = ends.NoMemory
 
 -- the end of an ask that brought no frame
-abbrev pub FailsAs : Side → ClientEnd → Type 0
-FailsAs side end = (end ≡ ends.LinkFault side) ⊎ (end ≡ ends.NoMemory)
+abbrev pub AskFailsAs : Side → ClientEnd → Type 0
+AskFailsAs side end = (end ≡ ends.LinkFault side) ⊎ (end ≡ ends.NoMemory)
 
 -- the end of a load or a save that failed
 abbrev pub IsKeeperEnd : ClientEnd → Type 0

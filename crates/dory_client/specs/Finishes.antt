@@ -12,7 +12,7 @@ use Rattle.dory_client.specs.declared.start.Todo.TheVariants.{Post, Plain}
 use Rattle.dory_client.specs.declared.start.Start.TheVariants.{Init, Act}
 use Rattle.dory_client.specs.declared.end.ClientEnd.{ClientEnd}
 use Rattle.dory_client.specs.declared.end.ClientEnd.TheVariants as ends
-use Rattle.dory_client.specs.Complete.{IsRefusal, KeepsState, TellsFolder}
+use Rattle.dory_client.specs.Complete.{IsDomainRefusal, KeepsState, TellsFolder}
 use Rattle.dory_client.specs.Input.{text_limit}
 use Rattle.dory_client.specs.Start.{start_of}
 
@@ -80,7 +80,7 @@ pub record MayFinish (words : List (List ℕ)) (state : KeptState) (lead_told fo
 -- run out.
 abbrev pub EndsFine : ClientEnd → Type 0
 EndsFine ends.Done = ⊤
-EndsFine (ends.Check f) = IsRefusal f
+EndsFine (ends.Check f) = IsDomainRefusal f
 EndsFine (ends.Diverged number lead_id follow_id) = ⊤
 EndsFine ends.NoMemory = ⊤
 EndsFine (ends.Usage fault) = ⊥

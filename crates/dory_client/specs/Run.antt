@@ -17,58 +17,58 @@ use Rattle.dory_client.specs.declared.start.Start.TheVariants.{Init, Act}
 use Rattle.dory_client.specs.declared.end.ClientEnd.{ClientEnd}
 use Rattle.dory_client.specs.declared.end.ClientEnd.TheVariants as ends
 use Rattle.dory_client.specs.Command.{HasText, NoCommand}
-use Rattle.dory_client.specs.Ends.{end_of, IsKeeperEnd}
-use Rattle.dory_client.specs.Goes.{Goes, Says}
+use Rattle.dory_client.specs.Ends.{fault_end, IsKeeperEnd}
+use Rattle.dory_client.specs.CommandEnds.{CommandEnds, Prints}
 use Rattle.dory_client.specs.Kept.{KeepsNow, OldOrNew}
 use Rattle.dory_client.specs.Scene.{Input, Scene, AskedNothing, IsUnread, IsUntouched}
 use Rattle.dory_client.specs.Start.{start_of, command_of}
 
 -- nothing was read, asked, kept or written
 abbrev pub IsQuiet : Input → Input → Scene → Scene → Type 0
-IsQuiet i i' a z = IsUnread i i' × IsUntouched a z
+IsQuiet input input' before after = IsUnread input input' × IsUntouched before after
 
 -- a command in the state that is kept
-pub data Acts (k : KeptState) (seed : List ℕ) (t : Todo) (i i' : Input) (a z : Scene) (end : ClientEnd) : Type 0 where
+pub data Acts (k : KeptState) (seed : List ℕ) (t : Todo) (input input' : Input) (before after : Scene) (end : ClientEnd) : Type 0 where
   -- there is no command, since it is refused or its input has no text
-  NotMade : NoCommand k t i i' end → IsUntouched a z → Acts k seed t i i' a z end
+  NotMade : NoCommand k t input input' end → IsUntouched before after → Acts k seed t input input' before after end
   -- it is refused
-  Refused : (text : List ℕ) (f : Fault) → HasText t i i' text → begun k seed (command_of k text t) ≡ Err f → IsUntouched a z → end ≡ end_of f → Acts k seed t i i' a z end
+  Refused : (text : List ℕ) (f : Fault) → HasText t input input' text → begun k seed (command_of k text t) ≡ Err f → IsUntouched before after → end ≡ fault_end f → Acts k seed t input input' before after end
   -- memory ran out where it was to begin
-  NoRoom : (text : List ℕ) → HasText t i i' text → IsUntouched a z → end ≡ ends.NoMemory → Acts k seed t i i' a z end
+  NoRoom : (text : List ℕ) → HasText t input input' text → IsUntouched before after → end ≡ ends.NoMemory → Acts k seed t input input' before after end
   -- it began, and went on so
-  Began : (text : List ℕ) (run : Run) → HasText t i i' text → begun k seed (command_of k text t) ≡ Ok run → Goes run a z end → Acts k seed t i i' a z end
+  Began : (text : List ℕ) (run : Run) → HasText t input input' text → begun k seed (command_of k text t) ≡ Ok run → CommandEnds run before after end → Acts k seed t input input' before after end
 
 -- a first state is kept, and `ready` is written
-pub data Begins (first : KeptState) (kept kept' : Option (Option (List ℕ))) (written written' : Option (List ℕ)) (end : ClientEnd) : Type 0 where
-  Unsaved : OldOrNew kept kept' first → Stays written written' → IsKeeperEnd end → Begins first kept kept' written written' end
-  Saved : KeepsNow kept kept' first → Says (codes "ready" ++ 10 ∷ []) written written' end → Begins first kept kept' written written' end
+pub data StateBegins (first : KeptState) (kept kept' : Option (Option (List ℕ))) (written written' : Option (List ℕ)) (end : ClientEnd) : Type 0 where
+  Unsaved : OldOrNew kept kept' first → Stays written written' → IsKeeperEnd end → StateBegins first kept kept' written written' end
+  Saved : KeepsNow kept kept' first → Prints (codes "ready" ++ 10 ∷ []) written written' end → StateBegins first kept kept' written written' end
 
 -- kept bytes are read
 abbrev pub ActsIn : Result KeptState StateFault → List ℕ → Todo → Input → Input → Scene → Scene → ClientEnd → Type 0
-ActsIn (Ok k) seed t i i' a z end = IsKeptState k × Acts k seed t i i' a z end
-ActsIn (Err fault) seed t i i' a z end = IsQuiet i i' a z × (end ≡ ends.StateForm fault)
+ActsIn (Ok k) seed t input input' before after end = IsKeptState k × Acts k seed t input input' before after end
+ActsIn (Err fault) seed t input input' before after end = IsQuiet input input' before after × (end ≡ ends.StateForm fault)
 
 -- or memory runs out where they are read
 abbrev pub MayAct : Result KeptState StateFault → List ℕ → Todo → Input → Input → Scene → Scene → ClientEnd → Type 0
-MayAct read seed t i i' a z end = (IsQuiet i i' a z × (end ≡ ends.NoMemory)) ⊎ ActsIn read seed t i i' a z end
+MayAct read seed t input input' before after end = (IsQuiet input input' before after × (end ≡ ends.NoMemory)) ⊎ ActsIn read seed t input input' before after end
 
 -- a first state begins where nothing is kept, and a command acts in what is kept
 abbrev pub StartsIn : Start → Option (List ℕ) → List ℕ → Input → Input → Scene → Scene → ClientEnd → Type 0
-StartsIn (Init first) None seed i i' a z end = IsUnread i i' × AskedNothing a z × Begins first a.kept z.kept a.written z.written end
-StartsIn (Init first) (Some bytes) seed i i' a z end = IsQuiet i i' a z × (end ≡ ends.HasState)
-StartsIn (Act t) None seed i i' a z end = IsQuiet i i' a z × (end ≡ ends.NoState)
-StartsIn (Act t) (Some bytes) seed i i' a z end = MayAct (state_of bytes) seed t i i' a z end
+StartsIn (Init first) None seed input input' before after end = IsUnread input input' × AskedNothing before after × StateBegins first before.kept after.kept before.written after.written end
+StartsIn (Init first) (Some bytes) seed input input' before after end = IsQuiet input input' before after × (end ≡ ends.HasState)
+StartsIn (Act t) None seed input input' before after end = IsQuiet input input' before after × (end ≡ ends.NoState)
+StartsIn (Act t) (Some bytes) seed input input' before after end = MayAct (state_of bytes) seed t input input' before after end
 
 -- what is kept is loaded
-pub data Loads (s : Start) (seed : List ℕ) (i i' : Input) (a z : Scene) (end : ClientEnd) : Type 0 where
-  Unloaded : IsQuiet i i' a z → IsKeeperEnd end → Loads s seed i i' a z end
-  Loaded : (kept : Option (List ℕ)) → Tells a.kept kept → StartsIn s kept seed i i' a z end → Loads s seed i i' a z end
+pub data Loads (s : Start) (seed : List ℕ) (input input' : Input) (before after : Scene) (end : ClientEnd) : Type 0 where
+  Unloaded : IsQuiet input input' before after → IsKeeperEnd end → Loads s seed input input' before after end
+  Loaded : (kept : Option (List ℕ)) → Tells before.kept kept → StartsIn s kept seed input input' before after end → Loads s seed input input' before after end
 
 -- a line, or the first thing that is wrong with the words
 abbrev pub Runs : Result Line UsageFault → List ℕ → Input → Input → Scene → Scene → ClientEnd → Type 0
-Runs (Ok line) seed i i' a z end = Loads (start_of line) seed i i' a z end
-Runs (Err fault) seed i i' a z end = IsQuiet i i' a z × ((end ≡ ends.Usage fault) ⊎ (end ≡ ends.NoMemory))
+Runs (Ok line) seed input input' before after end = Loads (start_of line) seed input input' before after end
+Runs (Err fault) seed input input' before after end = IsQuiet input input' before after × ((end ≡ ends.Usage fault) ⊎ (end ≡ ends.NoMemory))
 
 -- the whole call
 abbrev pub IsRun : List (List ℕ) → List ℕ → Input → Input → Scene → Scene → ClientEnd → Type 0
-IsRun words seed i i' a z end = Runs (line_of words) seed i i' a z end
+IsRun words seed input input' before after end = Runs (line_of words) seed input input' before after end

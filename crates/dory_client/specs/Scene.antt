@@ -25,18 +25,18 @@ scene kept lead follow written = record { kept = kept; lead = lead; follow = fol
 
 -- neither link was asked
 abbrev pub AskedNothing : Scene → Scene → Type 0
-AskedNothing a z = (z.lead ≡ a.lead) × (z.follow ≡ a.follow)
+AskedNothing before after = (after.lead ≡ before.lead) × (after.follow ≡ before.follow)
 
 -- nothing was written
 abbrev pub WroteNothing : Scene → Scene → Type 0
-WroteNothing a z = Stays a.written z.written
+WroteNothing before after = Stays before.written after.written
 
 -- nothing was asked, kept or written
-pub record IsUntouched (a z : Scene) : Type 0 where
-  pub asked : AskedNothing a z
-  pub kept : Stays a.kept z.kept
-  pub wrote : WroteNothing a z
+pub record IsUntouched (before after : Scene) : Type 0 where
+  pub asked : AskedNothing before after
+  pub kept : Stays before.kept after.kept
+  pub wrote : WroteNothing before after
 
 -- the input wasn't read
 abbrev pub IsUnread : Input → Input → Type 0
-IsUnread i i' = i' ≡ i
+IsUnread input input' = input' ≡ input

@@ -19,17 +19,17 @@ pub record Sought : Type 0 where
   pub follow : List PointKey
 
 -- the columns of a word in a state's folder
-abbrev pub columns_of : KeptState → List ℕ → List ℕ
-columns_of state word = positions_of (folder_keys state) state.shape word
+abbrev pub sought_columns : KeptState → List ℕ → List ℕ
+sought_columns state word = positions_of (folder_keys state) state.shape word
 
 -- what a word is searched by in a state's folder: the seed and the next serial draw the keys of party 0 for the lead,
 -- and those of party 1 for the follower
 abbrev pub sought_of : KeptState → List ℕ → List ℕ → Sought
 sought_of state seed word = record {
   keys = folder_keys state;
-  columns = columns_of state word;
-  lead = keys_from 0 state.shape.depth seed state.next_serial 0 (columns_of state word);
-  follow = keys_from 1 state.shape.depth seed state.next_serial 0 (columns_of state word);
+  columns = sought_columns state word;
+  lead = keys_from 0 state.shape.depth seed state.next_serial 0 (sought_columns state word);
+  follow = keys_from 1 state.shape.depth seed state.next_serial 0 (sought_columns state word);
 }
 
 -- the name of a step's ask, in a command that draws the next serial of this state
@@ -37,9 +37,9 @@ abbrev pub ask_of : KeptState → ℕ → AskId
 ask_of state step = record { member = state.member; serial = state.next_serial; step = step }
 
 -- what is asked at a step of the state's folder
-abbrev pub asked_of : KeptState → ℕ → Want → Request
-asked_of state step want = record { ask = ask_of state step; folder = state.folder; want = want }
+abbrev pub step_request : KeptState → ℕ → Want → Request
+step_request state step want = record { ask = ask_of state step; folder = state.folder; want = want }
 
 -- a search at a version
 abbrev pub searching : KeptState → ℕ → ℕ → List PointKey → Request
-searching state step version keys = asked_of state step (Search version state.shape keys)
+searching state step version keys = step_request state step (Search version state.shape keys)

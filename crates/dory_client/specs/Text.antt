@@ -3,7 +3,7 @@ use Rattle.std.specs.Prelude.{ℕ, List, ◌++◌, codes}
 use Rattle.std.specs.Fmt.{decimal}
 use Rattle.dory_base.specs.Texts.{id_text, side_text}
 use Rattle.dory_cli.specs.Texts.{usage_text}
-use Rattle.dory_state.specs.Texts.{fault_text as form_text}
+use Rattle.dory_state.specs.Texts.{state_fault_text as form_text}
 use Rattle.dory_verify.specs.Texts.{check_text}
 use Rattle.dory_member.specs.Texts.{mark_text}
 use Rattle.dory_client.specs.declared.end.ClientEnd.{ClientEnd}

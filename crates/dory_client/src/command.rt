@@ -3,7 +3,7 @@ ghost use Rattle.std.specs.Prelude.{◌≡◌, ◌^◌, length, IfOk, IsErrOf};
 ghost use Rattle.dory_io.specs.Causes.{HasCause};
 ghost use Rattle.dory_state.specs.Spelling.{IsKeptState};
 ghost use Rattle.dory_member.specs.Within.{FitsCommand};
-ghost use Rattle.dory_client.specs.Ends.{end_of, input_end};
+ghost use Rattle.dory_client.specs.Ends.{fault_end, input_end};
 ghost use Rattle.dory_client.specs.Input.{AreTooMany};
 ghost use Rattle.dory_client.specs.Scene.{input_at};
 ghost use Rattle.dory_client.specs.Start.{IsTodo};
@@ -21,7 +21,7 @@ use std::alloc::Global;
 
 /// How a call ends at a command's fault.
 pub fn end_of(fault: Fault) -> ClientEnd
-    ensures { result ≡ end_of fault }
+    ensures { result ≡ fault_end fault }
 {
     match fault {
         Fault::Check(fault) => ClientEnd::Check(fault),

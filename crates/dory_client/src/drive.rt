@@ -4,9 +4,9 @@ ghost use Rattle.dory_base.specs.declared.ids.Side.TheVariants as sides;
 ghost use Rattle.dory_wire.specs.declared.message.Request.{Request};
 ghost use Rattle.dory_io.specs.Causes.{HasCause};
 ghost use Rattle.dory_member.specs.Machine.{IsFrameOf};
-ghost use Rattle.dory_client.specs.Asked.{Ask, Unanswered};
-ghost use Rattle.dory_client.specs.Ends.{FailsAs};
-ghost use Rattle.dory_client.specs.Way.{AskOver, Broke, UnansweredOver, links};
+ghost use Rattle.dory_client.specs.Asked.{Exchanged, Unanswered};
+ghost use Rattle.dory_client.specs.Ends.{AskFailsAs};
+ghost use Rattle.dory_client.specs.Way.{ExchangedOver, InterruptedAfter, UnansweredOver, links};
 ghost use Rattle.dory_client.specs.Driven.{Driven};
 
 use crate::end::ClientEnd;
@@ -25,10 +25,10 @@ fn received(frame: Vec<u8>) -> Vec<u8>
 
 /// The frame that comes over a link to this one.
 fn ask<L: Link>(alloc: Global, link: &mut L, side: Side, frame: &[u8]) -> Result<Vec<u8>, ClientEnd>
-    ensures asked { (request : Request) → IsFrameOf request frame.now → IfOk result (λ came. Ask (L.heard link.old) (L.heard link.new) request came.items) }
+    ensures asked { (request : Request) → IsFrameOf request frame.now → IfOk result (λ came. Exchanged (L.heard link.old) (L.heard link.new) request came.items) }
     ensures unanswered { (request : Request) → IsFrameOf request frame.now → OnErr result (Unanswered (L.heard link.old) (L.heard link.new) request) }
     ensures cause { HasCause (L.faults link.old) (L.faults link.new) (IsErrOf result (ClientEnd.LinkFault side)) }
-    ensures fails { IfErr result (FailsAs side) }
+    ensures fails { IfErr result (AskFailsAs side) }
 {
     match link.ask(alloc, frame) {
         Ok(reply) => Ok(received(reply)),
@@ -46,12 +46,12 @@ fn put<L0: Link, L1: Link>(
     frame: &[u8],
 ) -> Result<Vec<u8>, ClientEnd>
     ensures asked { (request : Request) → IsFrameOf request frame.now →
-        IfOk result (λ came. AskOver side (links (L0.heard lead.old) (L1.heard follow.old)) (links (L0.heard lead.new) (L1.heard follow.new)) request came.items) }
+        IfOk result (λ came. ExchangedOver side (links (L0.heard lead.old) (L1.heard follow.old)) (links (L0.heard lead.new) (L1.heard follow.new)) request came.items) }
     ensures unanswered { (request : Request) → IsFrameOf request frame.now →
         OnErr result (UnansweredOver side (links (L0.heard lead.old) (L1.heard follow.old)) (links (L0.heard lead.new) (L1.heard follow.new)) request) }
     ensures lead { HasCause (L0.faults lead.old) (L0.faults lead.new) (IsErrOf result (ClientEnd.LinkFault sides.Lead)) }
     ensures follow { HasCause (L1.faults follow.old) (L1.faults follow.new) (IsErrOf result (ClientEnd.LinkFault sides.Follow)) }
-    ensures fails { IfErr result (FailsAs side) }
+    ensures fails { IfErr result (AskFailsAs side) }
 {
     match side {
         Side::Lead => ask(alloc, lead, Side::Lead, frame),
@@ -68,7 +68,7 @@ pub fn drive<L0: Link, L1: Link>(
 ) -> Result<(), ClientEnd>
     requires { member.old.unsaved ≡ false }
     ensures driven { OnOk result (Driven member.old (links (L0.heard lead.old) (L1.heard follow.old)) (links (L0.heard lead.new) (L1.heard follow.new)) member.new) }
-    ensures broke { IfErr result (Broke member.old.run (links (L0.heard lead.old) (L1.heard follow.old)) (links (L0.heard lead.new) (L1.heard follow.new))) }
+    ensures broke { IfErr result (InterruptedAfter member.old.run (links (L0.heard lead.old) (L1.heard follow.old)) (links (L0.heard lead.new) (L1.heard follow.new))) }
     ensures lead { HasCause (L0.faults lead.old) (L0.faults lead.new) (IsErrOf result (ClientEnd.LinkFault sides.Lead)) }
     ensures follow { HasCause (L1.faults follow.old) (L1.faults follow.new) (IsErrOf result (ClientEnd.LinkFault sides.Follow)) }
 {

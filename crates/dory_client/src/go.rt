@@ -4,9 +4,9 @@ ghost use Rattle.dory_base.specs.declared.ids.Side.TheVariants as sides;
 ghost use Rattle.dory_io.specs.Causes.{HasCause};
 ghost use Rattle.dory_state.specs.Spelling.{IsKeptState};
 ghost use Rattle.dory_member.specs.Course.{asks};
-ghost use Rattle.dory_member.specs.Machine.{first_of};
+ghost use Rattle.dory_member.specs.Machine.{just_begun};
 ghost use Rattle.dory_member.specs.Within.{FitsCommand};
-ghost use Rattle.dory_client.specs.Goes.{Closes, Comes, Goes, GoesFrom};
+ghost use Rattle.dory_client.specs.CommandEnds.{Closes, OutcomePrints, CommandEnds, CommandEndsFrom};
 ghost use Rattle.dory_client.specs.Scene.{scene};
 
 use crate::command::end_of;
@@ -22,7 +22,7 @@ use std::alloc::Global;
 
 /// Writes what a command came to, or answers its fault.
 fn tell<O: Sink>(alloc: Global, outcome: &Outcome, out: &mut O) -> ClientEnd
-    ensures comes { Comes outcome.now (O.written out.old) (O.written out.new) result }
+    ensures comes { OutcomePrints outcome.now (O.written out.old) (O.written out.new) result }
     ensures cause { HasCause (O.faults out.old) (O.faults out.new) (result ≡ ClientEnd.OutputFault) }
 {
     match outcome {
@@ -67,8 +67,8 @@ fn run_member<L0: Link, L1: Link, K: Keeper, O: Sink>(
     keeper: &mut K,
     out: &mut O,
 ) -> ClientEnd
-    requires { member.old ≡ first_of member.old.run }
-    ensures goes { Goes member.old.run (scene (K.kept keeper.old) (L0.heard lead.old) (L1.heard follow.old) (O.written out.old)) (scene (K.kept keeper.new) (L0.heard lead.new) (L1.heard follow.new) (O.written out.new)) result }
+    requires { member.old ≡ just_begun member.old.run }
+    ensures goes { CommandEnds member.old.run (scene (K.kept keeper.old) (L0.heard lead.old) (L1.heard follow.old) (O.written out.old)) (scene (K.kept keeper.new) (L0.heard lead.new) (L1.heard follow.new) (O.written out.new)) result }
     ensures keeper { HasCause (K.faults keeper.old) (K.faults keeper.new) (result ≡ ClientEnd.KeeperFault) }
     ensures lead { HasCause (L0.faults lead.old) (L0.faults lead.new) (result ≡ ClientEnd.LinkFault sides.Lead) }
     ensures follow { HasCause (L1.faults follow.old) (L1.faults follow.new) (result ≡ ClientEnd.LinkFault sides.Follow) }
@@ -98,7 +98,7 @@ pub fn go<L0: Link, L1: Link, K: Keeper, O: Sink>(
 ) -> ClientEnd
     requires state { IsKeptState state }
     requires row { FitsCommand state.shape command }
-    ensures goes { GoesFrom state seed command (scene (K.kept keeper.old) (L0.heard lead.old) (L1.heard follow.old) (O.written out.old)) (scene (K.kept keeper.new) (L0.heard lead.new) (L1.heard follow.new) (O.written out.new)) result }
+    ensures goes { CommandEndsFrom state seed command (scene (K.kept keeper.old) (L0.heard lead.old) (L1.heard follow.old) (O.written out.old)) (scene (K.kept keeper.new) (L0.heard lead.new) (L1.heard follow.new) (O.written out.new)) result }
     ensures keeper { HasCause (K.faults keeper.old) (K.faults keeper.new) (result ≡ ClientEnd.KeeperFault) }
     ensures lead { HasCause (L0.faults lead.old) (L0.faults lead.new) (result ≡ ClientEnd.LinkFault sides.Lead) }
     ensures follow { HasCause (L1.faults follow.old) (L1.faults follow.new) (result ≡ ClientEnd.LinkFault sides.Follow) }

@@ -5,17 +5,17 @@ ghost use Rattle.dory_io.specs.Causes.{HasCause};
 ghost use Rattle.dory_state.specs.Spelling.{IsKeptState};
 ghost use Rattle.dory_state.specs.Reading.{state_of};
 ghost use Rattle.dory_verify.specs.declared.fault.CheckFault.{CheckFault};
-ghost use Rattle.dory_client.specs.Complete.{EndsWell, IsRefusal, IsSearch, TellAlike, Unhindered};
-ghost use Rattle.dory_client.specs.Confirmed.{Does};
+ghost use Rattle.dory_client.specs.Complete.{SearchEndsWell, IsDomainRefusal, IsSearchLine, TellAlike, Unhindered};
+ghost use Rattle.dory_client.specs.CallEffects.{CallEffects};
 ghost use Rattle.dory_client.specs.Finishes.{BothTell, EndsFine, MayBegin, MayFinish};
 ghost use Rattle.dory_client.specs.Headline.{IsAccepted};
 ghost use Rattle.dory_client.specs.Input.{AreTooMany};
-ghost use Rattle.dory_client.specs.Leaves.{LeavesKept};
-ghost use Rattle.dory_client.specs.Puts.{Puts};
-ghost use Rattle.dory_client.specs.Run.{Begins, IsRun, MayAct};
+ghost use Rattle.dory_client.specs.KeptAfter.{CallKeeps};
+ghost use Rattle.dory_client.specs.CallAsks.{CallAsks};
+ghost use Rattle.dory_client.specs.Run.{StateBegins, IsRun, MayAct};
 ghost use Rattle.dory_client.specs.Scene.{input_at, scene};
 ghost use Rattle.dory_client.specs.Start.{IsTodo};
-ghost use Rattle.dory_client.specs.Writes.{Writes};
+ghost use Rattle.dory_client.specs.CallPrints.{CallPrints};
 
 use crate::command::command_of;
 use crate::end::ClientEnd;
@@ -37,7 +37,7 @@ fn begin<K: Keeper, O: Sink>(
     out: &mut O,
 ) -> ClientEnd
     requires { IsKeptState first.now }
-    ensures begins { Begins first.now (K.kept keeper.old) (K.kept keeper.new) (O.written out.old) (O.written out.new) result }
+    ensures begins { StateBegins first.now (K.kept keeper.old) (K.kept keeper.new) (O.written out.old) (O.written out.new) result }
     ensures keeper { HasCause (K.faults keeper.old) (K.faults keeper.new) (result ≡ ClientEnd.KeeperFault) }
     ensures out { HasCause (O.faults out.old) (O.faults out.new) (result ≡ ClientEnd.OutputFault) }
 {
@@ -151,22 +151,22 @@ pub fn client_run<L0: Link, L1: Link, K: Keeper, S: Source, O: Sink>(
         (scene (K.kept keeper.old) (L0.heard lead.old) (L1.heard follow.old) (O.written out.old)) (scene (K.kept keeper.new) (L0.heard lead.new) (L1.heard follow.new) (O.written out.new)) }
     // What is done: an update stands at one number in both told histories, and what is kept as seen doesn't fall, nor go
     // beyond a told history that had what was seen before.
-    ensures does { result ≡ ClientEnd.Done → Does (map string_bytes words.now) seed (input_at (S.left input.old) (S.given input.old)) (input_at (S.left input.new) (S.given input.new))
+    ensures does { result ≡ ClientEnd.Done → CallEffects (map string_bytes words.now) seed (input_at (S.left input.old) (S.given input.old)) (input_at (S.left input.new) (S.given input.new))
         (scene (K.kept keeper.old) (L0.heard lead.old) (L1.heard follow.old) (O.written out.old)) (scene (K.kept keeper.new) (L0.heard lead.new) (L1.heard follow.new) (O.written out.new)) }
     // What is asked: the frames of the command's requests, each of its side's link, or the first of them where it broke off.
-    ensures asked { Puts (map string_bytes words.now) seed (input_at (S.left input.old) (S.given input.old)) (input_at (S.left input.new) (S.given input.new))
+    ensures asked { CallAsks (map string_bytes words.now) seed (input_at (S.left input.old) (S.given input.old)) (input_at (S.left input.new) (S.given input.new))
         (scene (K.kept keeper.old) (L0.heard lead.old) (L1.heard follow.old) (O.written out.old)) (scene (K.kept keeper.new) (L0.heard lead.new) (L1.heard follow.new) (O.written out.new)) result }
     // What is kept: the finished state where the call is done, and at any other end the old one, where neither domain was
     // asked, the one saved before the first ask, or the finished one. None of them has seen less than the old one.
-    ensures leaves { LeavesKept (map string_bytes words.now) seed (input_at (S.left input.old) (S.given input.old)) (input_at (S.left input.new) (S.given input.new))
+    ensures leaves { CallKeeps (map string_bytes words.now) seed (input_at (S.left input.old) (S.given input.old)) (input_at (S.left input.new) (S.given input.new))
         (scene (K.kept keeper.old) (L0.heard lead.old) (L1.heard follow.old) (O.written out.old)) (scene (K.kept keeper.new) (L0.heard lead.new) (L1.heard follow.new) (O.written out.new)) result }
     // What is written: a line where the call is done, the first part of one where the output failed, and nothing else.
-    ensures wrote { Writes result (O.written out.old) (O.written out.new) }
+    ensures wrote { CallPrints result (O.written out.old) (O.written out.new) }
     // Over two links that tell the folder, with sealed histories that agree and were no shorter than what was seen, a search
     // fails no check but by a refusal.
-    ensures complete { IsSearch (map string_bytes words.now) → TellAlike (K.kept keeper.old) (L0.heard lead.old) (L0.heard lead.new) (L1.heard follow.old) (L1.heard follow.new) → (f : CheckFault) → result ≡ ClientEnd.Check f → IsRefusal f }
+    ensures complete { IsSearchLine (map string_bytes words.now) → TellAlike (K.kept keeper.old) (L0.heard lead.old) (L0.heard lead.new) (L1.heard follow.old) (L1.heard follow.new) → (f : CheckFault) → result ≡ ClientEnd.Check f → IsDomainRefusal f }
     // Where moreover a serial is left and nothing outside failed, the search ends done, or by a refusal.
-    ensures ends { (t : TellAlike (K.kept keeper.old) (L0.heard lead.old) (L0.heard lead.new) (L1.heard follow.old) (L1.heard follow.new)) → Unhindered (map string_bytes words.now) t.state (K.faults keeper.old) (K.faults keeper.new) (L0.faults lead.old) (L0.faults lead.new) (L1.faults follow.old) (L1.faults follow.new) (O.faults out.old) (O.faults out.new) → EndsWell result }
+    ensures ends { (t : TellAlike (K.kept keeper.old) (L0.heard lead.old) (L0.heard lead.new) (L1.heard follow.old) (L1.heard follow.new)) → Unhindered (map string_bytes words.now) t.state (K.faults keeper.old) (K.faults keeper.new) (L0.faults lead.old) (L0.faults lead.new) (L1.faults follow.old) (L1.faults follow.new) (O.faults out.old) (O.faults out.new) → SearchEndsWell result }
     // Any other command over two links that tell the folder, which nothing in the state forbids and nothing outside failed,
     // ends done, or by a refusal.
     ensures finishes { (b : BothTell (K.kept keeper.old) (L0.heard lead.old) (L1.heard follow.old)) → MayFinish (map string_bytes words.now) b.state b.lead_told b.follow_told (S.left input.old) (K.faults keeper.old) (K.faults keeper.new) (L0.faults lead.old) (L0.faults lead.new) (L1.faults follow.old) (L1.faults follow.new) (S.faults input.old) (S.faults input.new) (O.faults out.old) (O.faults out.new) → EndsFine result }

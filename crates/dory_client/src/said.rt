@@ -2,7 +2,7 @@
 ghost use Rattle.std.specs.Prelude.{◌≡◌, ◌++◌, ◌∷◌, [], Some, codes, string_bytes, IsErrOf};
 ghost use Rattle.dory_io.specs.Causes.{HasCause};
 ghost use Rattle.dory_member.specs.declared.outcome.Outcome.{Outcome as OutcomeOf};
-ghost use Rattle.dory_client.specs.Goes.{Says, line_of};
+ghost use Rattle.dory_client.specs.CommandEnds.{Prints, outcome_line};
 
 use crate::end::ClientEnd;
 use dory_base::NoMemory;
@@ -12,7 +12,7 @@ use std::alloc::Global;
 
 /// Writes a text and a line end.
 fn say<O: Sink>(alloc: Global, text: &str, out: &mut O) -> ClientEnd
-    ensures says { Says (text.now ++ 10 ∷ []) (O.written out.old) (O.written out.new) result }
+    ensures says { Prints (text.now ++ 10 ∷ []) (O.written out.old) (O.written out.new) result }
     ensures cause { HasCause (O.faults out.old) (O.faults out.new) (result ≡ ClientEnd.OutputFault) }
 {
     let Ok(line) = format!(in alloc; "{text}\n") else {
@@ -26,7 +26,7 @@ fn say<O: Sink>(alloc: Global, text: &str, out: &mut O) -> ClientEnd
 
 /// Writes that a first state is kept.
 pub fn say_ready<O: Sink>(alloc: Global, out: &mut O) -> ClientEnd
-    ensures says { Says (codes "ready" ++ 10 ∷ []) (O.written out.old) (O.written out.new) result }
+    ensures says { Prints (codes "ready" ++ 10 ∷ []) (O.written out.old) (O.written out.new) result }
     ensures cause { HasCause (O.faults out.old) (O.faults out.new) (result ≡ ClientEnd.OutputFault) }
 {
     say(alloc, "ready", out)
@@ -34,7 +34,7 @@ pub fn say_ready<O: Sink>(alloc: Global, out: &mut O) -> ClientEnd
 
 /// Writes what a command came to.
 pub fn say_outcome<O: Sink>(alloc: Global, outcome: &Outcome, out: &mut O) -> ClientEnd
-    ensures says { Says (line_of outcome.now) (O.written out.old) (O.written out.new) result }
+    ensures says { Prints (outcome_line outcome.now) (O.written out.old) (O.written out.new) result }
     ensures cause { HasCause (O.faults out.old) (O.faults out.new) (result ≡ ClientEnd.OutputFault) }
 {
     match outcome_text(alloc, outcome) {

@@ -16,18 +16,18 @@ use Rattle.dory_wire.specs.declared.message.Want.TheVariants.{Latest, Search, Wh
 use Rattle.dory_wire.specs.declared.message.What.{What}
 use Rattle.dory_wire.specs.declared.message.What.TheVariants.{At, Found as Finds, Id, Staged, Committed, Refused}
 use Rattle.dory_wire.specs.StepReply.{stage_answer, commit_answer, answer_of, event_of, Steps}
-use Rattle.dory_domain.specs.Held.{Held, IsHeld, AreHeld, is_folder, folder_in, in_state, changed, Serves, ServesBy, KeptIfRefused}
+use Rattle.dory_domain.specs.Held.{Held, IsHeld, AreHeld, is_folder, folder_in, in_state, folders_with, Serves, ServesBy, KeptIfRefused}
 use Rattle.dory_domain.proofs.Lists.{none_passes, find_none, find_first}
 
 -- ---- the folder that steps
 
 first_changed : (n : ℕ) (next : State) (folders : List Held) (at : ℕ) (d : Held) → at < length folders → is_folder n (get_or folders at d) ≡ true → ((k : ℕ) → k < at → is_folder n (get_or folders k d) ≡ false)
-    → set folders at (in_state next (get_or folders at d)) ≡ changed n next folders
+    → set folders at (in_state next (get_or folders at d)) ≡ folders_with n next folders
 first_changed n next [] at d h hit before = absurd (omega arith)
-first_changed n next (x ∷ xs) zero d h hit before = sym (ap (λ (b : Bool). cond b (in_state next x ∷ xs) (x ∷ changed n next xs)) hit)
+first_changed n next (x ∷ xs) zero d h hit before = sym (ap (λ (b : Bool). cond b (in_state next x ∷ xs) (x ∷ folders_with n next xs)) hit)
 first_changed n next (x ∷ xs) (suc at) d h hit before =
     ap (λ (fs : List Held). x ∷ fs) (first_changed n next xs at d (omega arith) hit (λ k low. before (suc k) (omega arith)))
-    ∙ sym (ap (λ (b : Bool). cond b (in_state next x ∷ xs) (x ∷ changed n next xs)) (before 0 (omega arith)))
+    ∙ sym (ap (λ (b : Bool). cond b (in_state next x ∷ xs) (x ∷ folders_with n next xs)) (before 0 (omega arith)))
 
 -- the folder at the first place of its number
 pub there_at : (n : ℕ) (folders : List Held) (at : ℕ) (f : Held) → position (is_folder n) folders ≡ Some at → f ≡ get_or folders at f → folder_in folders n ≡ Some f
@@ -45,7 +45,7 @@ pub serves_at : (n : ℕ) (folders : List Held) (at : ℕ) (f g : Held) (want : 
 serves_at n folders at f g want what is read same steps =
     let p = position-Some (is_folder n) folders at f is in
     let g_is : g ≡ in_state g.state (get_or folders at f) = (λ i. record { number = (same ∙ ap (λ (x : Held). x.number) read) i; state = g.state }) in
-    let all : set folders at g ≡ changed n g.state folders = ap (set folders at) g_is ∙ first_changed n g.state folders at f p.0 p.1 p.2 in
+    let all : set folders at g ≡ folders_with n g.state folders = ap (set folders at) g_is ∙ first_changed n g.state folders at f p.0 p.1 p.2 in
     subst (λ (o : Option Held). ServesBy o folders n want what (set folders at g)) (sym (there_at n folders at f is read)) (g.state, steps, all)
 
 -- ---- the folders stay apart
@@ -117,28 +117,28 @@ refused_stays s next want what code (inl done) is =
 -- ---- the folders by their numbers
 
 here_again : (n : ℕ) (next : State) (f : Held) (folders : List Held) (b : Bool) → is_folder n f ≡ b → (g : Held) → cond b (Some f) (find (is_folder n) folders) ≡ Some g
-    → ((h : Held) → find (is_folder n) folders ≡ Some h → find (is_folder n) (changed n next folders) ≡ Some (in_state next h))
-    → find (is_folder n) (cond b (in_state next f ∷ folders) (f ∷ changed n next folders)) ≡ Some (in_state next g)
+    → ((h : Held) → find (is_folder n) folders ≡ Some h → find (is_folder n) (folders_with n next folders) ≡ Some (in_state next h))
+    → find (is_folder n) (cond b (in_state next f ∷ folders) (f ∷ folders_with n next folders)) ≡ Some (in_state next g)
 here_again n next f folders true is g found more =
     let e : f ≡ g = cc in
     ap (λ (b : Bool). cond b (Some (in_state next f)) (find (is_folder n) folders)) is ∙ ap (λ (h : Held). Some (in_state next h)) e
 here_again n next f folders false is g found more =
-    ap (λ (b : Bool). cond b (Some f) (find (is_folder n) (changed n next folders))) is ∙ more g found
+    ap (λ (b : Bool). cond b (Some f) (find (is_folder n) (folders_with n next folders))) is ∙ more g found
 
 -- the folder of this number is in the other state
-pub found_changed : (n : ℕ) (next : State) (folders : List Held) (f : Held) → folder_in folders n ≡ Some f → folder_in (changed n next folders) n ≡ Some (in_state next f)
+pub found_changed : (n : ℕ) (next : State) (folders : List Held) (f : Held) → folder_in folders n ≡ Some f → folder_in (folders_with n next folders) n ≡ Some (in_state next f)
 found_changed n next [] f is = absurd (cc)
 found_changed n next (x ∷ folders) f is = here_again n next x folders (is_folder n x) refl f is (λ h. found_changed n next folders h)
 
-other_again : (n m : ℕ) (next : State) (f : Held) (folders : List Held) (b : Bool) → is_folder n f ≡ b → m ≢ n → find (is_folder m) (changed n next folders) ≡ find (is_folder m) folders
-    → find (is_folder m) (cond b (in_state next f ∷ folders) (f ∷ changed n next folders)) ≡ cond (is_folder m f) (Some f) (find (is_folder m) folders)
+other_again : (n m : ℕ) (next : State) (f : Held) (folders : List Held) (b : Bool) → is_folder n f ≡ b → m ≢ n → find (is_folder m) (folders_with n next folders) ≡ find (is_folder m) folders
+    → find (is_folder m) (cond b (in_state next f ∷ folders) (f ∷ folders_with n next folders)) ≡ cond (is_folder m f) (Some f) (find (is_folder m) folders)
 other_again n m next f folders true is apart rest =
     let no : is_folder m f ≡ false = ne_eqb f.number m (λ same. apart (sym same ∙ eqb-true f.number n is)) in
     ap (λ (b : Bool). cond b (Some (in_state next f)) (find (is_folder m) folders)) no ∙ sym (ap (λ (b : Bool). cond b (Some f) (find (is_folder m) folders)) no)
 other_again n m next f folders false is apart rest = ap (cond (is_folder m f) (Some f)) rest
 
 -- any other folder is as it was
-pub others_changed : (n m : ℕ) (next : State) (folders : List Held) → m ≢ n → folder_in (changed n next folders) m ≡ folder_in folders m
+pub others_changed : (n m : ℕ) (next : State) (folders : List Held) → m ≢ n → folder_in (folders_with n next folders) m ≡ folder_in folders m
 others_changed n m next [] apart = refl
 others_changed n m next (f ∷ folders) apart = other_again n m next f folders (is_folder n f) refl apart (others_changed n m next folders apart)
 

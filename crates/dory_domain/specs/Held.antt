@@ -53,9 +53,9 @@ abbrev pub folder_in : List Held → ℕ → Option Held
 folder_in folders number = find (is_folder number) folders
 
 -- the folders, of which the first of this number is in another state
-abbrev pub changed : ℕ → State → List Held → List Held
-changed number next [] = []
-changed number next (f ∷ folders) = cond (is_folder number f) (in_state next f ∷ folders) (f ∷ changed number next folders)
+abbrev pub folders_with : ℕ → State → List Held → List Held
+folders_with number next [] = []
+folders_with number next (f ∷ folders) = cond (is_folder number f) (in_state next f ∷ folders) (f ∷ folders_with number next folders)
 
 -- a domain has at most 8 folders, no number twice
 pub record AreHeld (folders : List Held) : Type 0 where
@@ -65,7 +65,7 @@ pub record AreHeld (folders : List Held) : Type 0 where
 -- what a domain does at a request: the folder of this number steps, or there is none
 abbrev pub ServesBy : Option Held → List Held → ℕ → Want → What → List Held → Type 0
 ServesBy None folders number want what now = (what ≡ Refused NoFolder) × (now ≡ folders)
-ServesBy (Some f) folders number want what now = (next : State) × Steps f.state want what next × (now ≡ changed number next folders)
+ServesBy (Some f) folders number want what now = (next : State) × Steps f.state want what next × (now ≡ folders_with number next folders)
 
 -- the same by the folder of this number
 abbrev pub Serves : List Held → ℕ → Want → What → List Held → Type 0

@@ -7,8 +7,8 @@ use Rattle.dory_dpf.specs.declared.generator.Doubled.{Doubled}
 
 -- the state of a block (RFC 8439, 2.3): the four constants, the eight words of the key, the number of the block, zero,
 -- and the two halves of the stream, the low one first
-abbrev pub state_of : List ℕ → ℕ → ℕ → List ℕ
-state_of key stream block =
+abbrev pub block_state : List ℕ → ℕ → ℕ → List ℕ
+block_state key stream block =
     0x61707865 ∷ 0x3320646e ∷ 0x79622d32 ∷ 0x6b206574
     ∷ u32_at key 0 ∷ u32_at key 1 ∷ u32_at key 2 ∷ u32_at key 3
     ∷ u32_at key 4 ∷ u32_at key 5 ∷ u32_at key 6 ∷ u32_at key 7
@@ -17,7 +17,7 @@ state_of key stream block =
 -- word k of a block (RFC 8439, 2.3): the state after twenty rounds, plus the state before them
 unfoldable pub block_word : List ℕ → ℕ → ℕ → ℕ → ℕ
 block_word key stream block k =
-    let x = state_of key stream block in
+    let x = block_state key stream block in
     add32 (slice_index (double_rounds 10 x) k) (slice_index x k)
 
 -- the word at a place of a stream

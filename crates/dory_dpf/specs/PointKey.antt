@@ -66,8 +66,8 @@ abbrev pub root_of : ℕ → List ℕ → Node
 root_of party seed = record { seed = seed; bit = party == 1 }
 
 -- the end of a key's walk to a place
-abbrev pub end_of : PointKey → ℕ → Node
-end_of key place = walk (root_of key.party key.seed) key.corrections (path_to (form_of key) key.depth place)
+abbrev pub key_walk_end : PointKey → ℕ → Node
+key_walk_end key place = walk (root_of key.party key.seed) key.corrections (path_to (form_of key) key.depth place)
 
 -- the share at a place, from the walk's end: in form 1 the control bit; in form 2 the seed's bit that the place names,
 -- XORed with that bit of the last word where the control bit is set
@@ -77,7 +77,7 @@ share_at (Some word) end place = xor (byte_bit end.seed (place % 128)) (end.bit 
 
 -- the share of a key at a place
 abbrev pub share_of : PointKey → ℕ → Bool
-share_of key place = share_at key.last (end_of key place) place
+share_of key place = share_at key.last (key_walk_end key place) place
 
 -- the shares at all places
 unfoldable pub shares_of : PointKey → List Bool

@@ -1,7 +1,7 @@
 //! The ChaCha20 block of a key, one block at a time: a seed of the tree needs ten words, where the kit's generator
 //! always makes four blocks.
 ghost use Rattle.std.specs.Prelude.{◌≡◌, ℕ, ◌<◌, ◌++◌, replicate, slice_index};
-ghost use Rattle.dory_dpf.specs.Block.{block_word, state_of};
+ghost use Rattle.dory_dpf.specs.Block.{block_word, block_state};
 
 use crate::rounds::{column_round, diagonal_round};
 use rand_core::utils::read_u32;
@@ -9,7 +9,7 @@ use rand_core::utils::read_u32;
 /// The state before the rounds: four constants, the key of sixteen bytes and sixteen zero bytes, block 0, stream 0.
 #[inline(always)]
 fn state_of(seed: &[u8; 16]) -> [u32; 16]
-    ensures { result ≡ state_of (seed.now ++ replicate 16 0) 0 0 }
+    ensures { result ≡ block_state (seed.now ++ replicate 16 0) 0 0 }
 {
     [
         0x6170_7865,

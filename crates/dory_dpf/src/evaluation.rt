@@ -1,6 +1,6 @@
 //! The share of a key at one place.
 ghost use Rattle.std.specs.Prelude.{◌≡◌};
-ghost use Rattle.dory_dpf.specs.PointKey.{end_of, share_at, share_of};
+ghost use Rattle.dory_dpf.specs.PointKey.{key_walk_end, share_at, share_of};
 
 use crate::generator::double;
 use crate::key::Key;
@@ -18,7 +18,7 @@ pub fn eval_at(key: &Key, place: u16) -> bool
 
 /// The end of the walk to a place.
 fn end_of(key: &Key, place: u16) -> Node
-    ensures { result ≡ end_of key.now place }
+    ensures { result ≡ key_walk_end key.now place }
 {
     let levels = key.levels();
     let leaf = leaf_of(key.form(), place);

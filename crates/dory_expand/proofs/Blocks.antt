@@ -7,7 +7,7 @@ use Rattle.std.proofs.lemmas.List.{get_or-append_right, length-append, append-ni
 use Rattle.std.proofs.lemmas.List.FromFn.{fill_by_all, length-map-range_with_len, get_or-map-range_with_len}
 use Rattle.std.proofs.lemmas.Nat.Bits.{bit_at_lowest, bit_at-suc, bit_at-zero}
 use Rattle.dory_base.specs.Packed.{word_bit, bits_of}
-use Rattle.dory_expand.specs.Shown.{all_bits, bits_of_word, number_of}
+use Rattle.dory_expand.specs.Shown.{all_bits, bits_of_word, number_of_bits}
 
 pub length-blocks : {X A : Type 0} (f : X → List A) (m : ℕ) → ((x : X) → length (f x) ≡ m) → (xs : List X) → length (flat_map f xs) ≡ m * length xs
 length-blocks f m each [] = omega arith
@@ -62,8 +62,8 @@ digit_low : (b : Bool) → cond b 1 0 < 2
 digit_low true = omega arith
 digit_low false = omega arith
 
-pub number_low : (bs : List Bool) → number_of bs < 2 ^ length bs
-unfolding number_of
+pub number_low : (bs : List Bool) → number_of_bits bs < 2 ^ length bs
+unfolding number_of_bits
 number_low [] = omega arith
 number_low (b ∷ bs) =
     let e : 2 ^ suc (length bs) ≡ 2 * 2 ^ length bs = pow-succ' 2 (length bs) in
@@ -72,37 +72,37 @@ number_low (b ∷ bs) =
 twice : (a p : ℕ) → a * (2 * p) ≡ 2 * (a * p)
 twice a p = omega arith
 
-pub number_joined : (xs ys : List Bool) → number_of (xs ++ ys) ≡ number_of xs + number_of ys * 2 ^ length xs
-unfolding number_of
+pub number_joined : (xs ys : List Bool) → number_of_bits (xs ++ ys) ≡ number_of_bits xs + number_of_bits ys * 2 ^ length xs
+unfolding number_of_bits
 number_joined [] ys = omega arith
 number_joined (b ∷ xs) ys =
     let e : 2 ^ suc (length xs) ≡ 2 * 2 ^ length xs = pow-succ' 2 (length xs) in
     let f = number_joined xs ys in
-    let g : number_of ys * 2 ^ suc (length xs) ≡ 2 * (number_of ys * 2 ^ length xs) = rw e (twice (number_of ys) (2 ^ length xs)) in
+    let g : number_of_bits ys * 2 ^ suc (length xs) ≡ 2 * (number_of_bits ys * 2 ^ length xs) = rw e (twice (number_of_bits ys) (2 ^ length xs)) in
     omega (arith, f, g)
 
 digit_test : (b : Bool) → (cond b 1 0 == 1) ≡ b
 digit_test true = refl
 digit_test false = refl
 
-pub number_bit : (bs : List Bool) (k : ℕ) → k < length bs → (bit_at (number_of bs) k == 1) ≡ get_or bs k false
-unfolding number_of
+pub number_bit : (bs : List Bool) (k : ℕ) → k < length bs → (bit_at (number_of_bits bs) k == 1) ≡ get_or bs k false
+unfolding number_of_bits
 number_bit [] k h = absurd (omega arith)
 number_bit (b ∷ bs) zero h =
-    let x = cond b 1 0 + 2 * number_of bs in
+    let x = cond b 1 0 + 2 * number_of_bits bs in
     let low : x % 2 ≡ cond b 1 0 = omega (arith, digit_low b) in
     ap (λ (y : ℕ). y == 1) (bit_at_lowest x ∙ low) ∙ digit_test b
 number_bit (b ∷ bs) (suc k) h =
-    let x = cond b 1 0 + 2 * number_of bs in
-    let high : x / 2 ≡ number_of bs = omega (arith, digit_low b) in
+    let x = cond b 1 0 + 2 * number_of_bits bs in
+    let high : x / 2 ≡ number_of_bits bs = omega (arith, digit_low b) in
     ap (λ (y : ℕ). y == 1) (bit_at-suc x k ∙ ap (λ (y : ℕ). bit_at y k) high) ∙ number_bit bs k (omega arith)
 
-pub number_again : (bs : List Bool) → length bs ≡ 64 → bits_of_word (number_of bs) ≡ bs
+pub number_again : (bs : List Bool) → length bs ≡ 64 → bits_of_word (number_of_bits bs) ≡ bs
 unfolding bits_of_word
-number_again bs e = sym (fill_by_all (λ k. bit_at (number_of bs) k == 1) bs 64 false e (λ k h. sym (number_bit bs k (omega arith))))
+number_again bs e = sym (fill_by_all (λ k. bit_at (number_of_bits bs) k == 1) bs 64 false e (λ k h. sym (number_bit bs k (omega arith))))
 
 -- the one word that is written
-pub one_word : (ws : List ℕ) (bs : List Bool) → length ws ≡ 1 → length bs ≡ 64 → all_bits (set ws 0 (number_of bs)) ≡ bs
+pub one_word : (ws : List ℕ) (bs : List Bool) → length ws ≡ 1 → length bs ≡ 64 → all_bits (set ws 0 (number_of_bits bs)) ≡ bs
 one_word [] bs e f = absurd (omega arith)
-one_word (w ∷ []) bs e f = append-nil (bits_of_word (number_of bs)) ∙ number_again bs f
+one_word (w ∷ []) bs e f = append-nil (bits_of_word (number_of_bits bs)) ∙ number_again bs f
 one_word (w ∷ v ∷ ws) bs e f = absurd (omega arith)

@@ -8,20 +8,20 @@ use Rattle.dory_base.specs.Packed.{bits_of}
 use Rattle.dory_dpf.specs.declared.tree.Node.{Node}
 use Rattle.dory_dpf.specs.PointKey.{PointKey, IsKey, root_of, shares_of}
 use Rattle.dory_expand.specs.Leaves.{leaf_bits, leaves_of, node_bit}
-use Rattle.dory_expand.specs.Shown.{all_bits, bits_of_word, number_of}
+use Rattle.dory_expand.specs.Shown.{all_bits, bits_of_word, number_of_bits}
 use Rattle.dory_expand.proofs.Blocks.{length-all_bits, length-blocks, number_again, words_show}
 use Rattle.dory_expand.proofs.Walked.{length-leaf_bits, length-leaves_of, long_len, long_shares, short_levels, short_shares, seven}
 
 -- one word more
 pub word_step : (ws : List ℕ) (leaves : List Node) (i w : ℕ) → 64 * i + 64 ≤ length leaves
-    → w ≡ number_of (map node_bit (take (64 * i + 64 - 64 * i) (drop (64 * i) leaves)))
+    → w ≡ number_of_bits (map node_bit (take (64 * i + 64 - 64 * i) (drop (64 * i) leaves)))
     → all_bits ws ≡ map node_bit (take (64 * i) leaves)
     → all_bits (ws ++ w ∷ []) ≡ map node_bit (take (64 * (i + 1)) leaves)
 word_step ws leaves i w inside is before =
     let part = take 64 (drop (64 * i) leaves) in
     let size : 64 * i + 64 - 64 * i ≡ 64 = omega arith in
     let long : length part ≡ 64 = length-take-le 64 (drop (64 * i) leaves) (omega (arith, length-drop (64 * i) leaves)) in
-    let word : w ≡ number_of (map node_bit part) = is ∙ ap (λ (k : ℕ). number_of (map node_bit (take k (drop (64 * i) leaves)))) size in
+    let word : w ≡ number_of_bits (map node_bit part) = is ∙ ap (λ (k : ℕ). number_of_bits (map node_bit (take k (drop (64 * i) leaves)))) size in
     let bits : bits_of_word w ≡ map node_bit part = ap bits_of_word word ∙ number_again (map node_bit part) (length-map part node_bit ∙ long) in
     let place : 64 * i + 64 ≡ 64 * (i + 1) = omega arith in
     flat_map-append bits_of_word ws (w ∷ [])

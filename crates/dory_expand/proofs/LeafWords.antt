@@ -14,7 +14,7 @@ use Rattle.dory_dpf.specs.Sixteen.{xor_bytes, byte_bit}
 use Rattle.dory_dpf.specs.PointKey.{share_at}
 use Rattle.dory_dpf.proofs.XorBits.{byte_bit-xor}
 use Rattle.dory_expand.specs.Leaves.{leaf_bits}
-use Rattle.dory_expand.specs.Shown.{all_bits, number_of}
+use Rattle.dory_expand.specs.Shown.{all_bits, number_of_bits}
 use Rattle.dory_expand.proofs.Blocks.{bit_of_words, length-all_bits, number_low, number_joined}
 
 -- ---- bytes to a word
@@ -116,23 +116,23 @@ pub digit : (b : Bool) → from_bool b ≡ cond b 1 0 + 2 * 0
 digit true = refl
 digit false = refl
 
-joined_low : (xs ys : List Bool) → length xs + length ys ≤ 64 → number_of xs + number_of ys * 2 ^ length xs < 2 ^ 64
+joined_low : (xs ys : List Bool) → length xs + length ys ≤ 64 → number_of_bits xs + number_of_bits ys * 2 ^ length xs < 2 ^ 64
 joined_low xs ys h =
     let few : length (xs ++ ys) ≤ 64 = omega (arith, length-append xs ys) in
     let grown : 2 ^ length (xs ++ ys) ≤ 2 ^ 64 = pow-le-pow_right (omega arith) few in
     omega (arith, number_low (xs ++ ys), number_joined xs ys, grown)
 
-pub joined_fits : (xs ys : List Bool) (l h s : ℕ) → l ≡ number_of xs → h ≡ number_of ys → s ≡ length xs → length xs + length ys ≤ 64
+pub joined_fits : (xs ys : List Bool) (l h s : ℕ) → l ≡ number_of_bits xs → h ≡ number_of_bits ys → s ≡ length xs → length xs + length ys ≤ 64
     → l + h * 2 ^ s % 2 ^ 64 < 2 ^ 64
 joined_fits xs ys l h s e f g few =
     let low = joined_low xs ys few in
-    let small : h * 2 ^ s ≡ number_of ys * 2 ^ length xs = rw (f, g) refl in
+    let small : h * 2 ^ s ≡ number_of_bits ys * 2 ^ length xs = rw (f, g) refl in
     let x = h * 2 ^ s in
     omega (arith, low, small, e)
 
-pub joined_word : (xs ys : List Bool) (l h s : ℕ) → l ≡ number_of xs → h ≡ number_of ys → s ≡ length xs → length xs + length ys ≤ 64
-    → l + h * 2 ^ s % 2 ^ 64 ≡ number_of (xs ++ ys)
+pub joined_word : (xs ys : List Bool) (l h s : ℕ) → l ≡ number_of_bits xs → h ≡ number_of_bits ys → s ≡ length xs → length xs + length ys ≤ 64
+    → l + h * 2 ^ s % 2 ^ 64 ≡ number_of_bits (xs ++ ys)
 joined_word xs ys l h s e f g few =
     let low = joined_low xs ys few in
-    let small : h * 2 ^ s ≡ number_of ys * 2 ^ length xs = rw (f, g) refl in
+    let small : h * 2 ^ s ≡ number_of_bits ys * 2 ^ length xs = rw (f, g) refl in
     omega (arith, low, small, e, number_joined xs ys)

@@ -12,6 +12,6 @@ abbrev pub all_bits : List ℕ → List Bool
 all_bits words = flat_map bits_of_word words
 
 -- the number whose bits these are
-unfoldable pub number_of : List Bool → ℕ
-number_of [] = 0
-number_of (b ∷ bs) = cond b 1 0 + 2 * number_of bs
+unfoldable pub number_of_bits : List Bool → ℕ
+number_of_bits [] = 0
+number_of_bits (b ∷ bs) = cond b 1 0 + 2 * number_of_bits bs

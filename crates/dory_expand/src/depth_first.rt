@@ -3,7 +3,7 @@ ghost use Rattle.std.specs.Prelude.{◌≡◌, ◌≤◌, ◌*◌, ◌/◌, ◌^
 ghost use Rattle.dory_base.specs.Packed.{bits_of};
 ghost use Rattle.dory_dpf.specs.PointKey.{shares_of};
 ghost use Rattle.dory_expand.specs.Leaves.{leaf_bits, leaves_of, node_bit};
-ghost use Rattle.dory_expand.specs.Shown.{all_bits, number_of};
+ghost use Rattle.dory_expand.specs.Shown.{all_bits, number_of_bits};
 
 use crate::leaf_words::words_of_leaf;
 use dory_dpf::{Correction, Key, Node};
@@ -42,7 +42,7 @@ fn fill_long(node: &Node, corrections: &[Correction], into: &mut [u64])
 /// The word whose bits are those of the leaves below a node, up to 64 of them.
 fn word_below(node: &Node, corrections: &[Correction]) -> u64
     requires { length corrections.now ≤ 6 }
-    ensures { result ≡ number_of (map node_bit (leaves_of node.now corrections.now)) }
+    ensures { result ≡ number_of_bits (map node_bit (leaves_of node.now corrections.now)) }
 {
     if corrections.is_empty() {
         return u64::from(node.bit);

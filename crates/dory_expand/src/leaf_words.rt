@@ -2,7 +2,7 @@
 ghost use Rattle.std.specs.Prelude.{◌≡◌, ◌≤◌, ◌+◌, ◌<◌, ℕ, length, map, slice_index, take, drop};
 ghost use Rattle.std.specs.Int.{w64, from_le_bytes};
 ghost use Rattle.dory_expand.specs.Leaves.{leaf_bits, node_bit};
-ghost use Rattle.dory_expand.specs.Shown.{all_bits, number_of};
+ghost use Rattle.dory_expand.specs.Shown.{all_bits, number_of_bits};
 
 use dory_dpf::Node;
 
@@ -10,7 +10,7 @@ use dory_dpf::Node;
 pub fn word_of_leaves(leaves: &[Node]) -> u64
     requires some { 1 ≤ length leaves.now }
     requires few { length leaves.now ≤ 64 }
-    ensures { result ≡ number_of (map node_bit leaves.now) }
+    ensures { result ≡ number_of_bits (map node_bit leaves.now) }
 {
     if leaves.len() == 1 {
         return u64::from(leaves[0].bit);

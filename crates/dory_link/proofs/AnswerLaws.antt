@@ -18,8 +18,8 @@ use Rattle.dory_wire.specs.declared.message.What.TheVariants.{At, Found as Finds
 use Rattle.dory_wire.specs.Reading.{request_in, reply_in}
 use Rattle.dory_wire.specs.Read.{read_of, IsReadAs, IsReadOf}
 use Rattle.dory_wire.specs.StepReply.{Steps, answer_of, event_of, IsFinding}
-use Rattle.dory_domain.specs.Held.{Held, IsHeld, folder_in, in_state, changed, Serves, ServesBy}
-use Rattle.dory_link.specs.Told.{Told, Grown, Grows, IsReadAt, StepsOnce, AnswersTo, IsAnswer, Answers}
+use Rattle.dory_domain.specs.Held.{Held, IsHeld, folder_in, in_state, folders_with, Serves, ServesBy}
+use Rattle.dory_link.specs.Told.{Told, Grown, Grows, IsReadAt, StepsOnce, IsReplyTo, IsFolderReply, IsReplyFrame}
 use Rattle.dory_link.specs.Folders.{told_of, told_folders}
 use Rattle.dory_domain.proofs.HeldLaws.{found_changed, others_changed}
 use Rattle.dory_base.specs.Dims.{Dims}
@@ -69,12 +69,12 @@ step_grown f next want what steps = record {
 }
 
 folder_grows : (folders : List Held) (n m : ℕ) (f : Held) (next : State) (want : Want) (what : What) → folder_in folders n ≡ Some f → Steps f.state want what next → (b : Bool) → eqb m n ≡ b
-    → Grown (told_folders folders m) (told_folders (changed n next folders) m)
+    → Grown (told_folders folders m) (told_folders (folders_with n next folders) m)
 folder_grows folders n m f next want what there steps true is =
     let e : m ≡ n = eqb-true m n is in
     let before : folder_in folders m ≡ Some f = ap (folder_in folders) e ∙ there in
-    let now : folder_in (changed n next folders) m ≡ Some (in_state next f) = ap (folder_in (changed n next folders)) e ∙ found_changed n next folders f there in
-    subst (λ (o : Option Held). Grown (option_map told_of o) (told_folders (changed n next folders) m)) (sym before)
+    let now : folder_in (folders_with n next folders) m ≡ Some (in_state next f) = ap (folder_in (folders_with n next folders)) e ∙ found_changed n next folders f there in
+    subst (λ (o : Option Held). Grown (option_map told_of o) (told_folders (folders_with n next folders) m)) (sym before)
     (subst (λ (o : Option Held). Grown (Some (told_of f)) (option_map told_of o)) (sym now) (step_grown f next want what steps))
 folder_grows folders n m f next want what there steps false is =
     subst (λ (o : Option Held). Grown (told_folders folders m) (option_map told_of o)) (sym (others_changed n m next folders (λ same. true≢false (sym (eq-eqb m n same) ∙ is)))) (same_grown (told_folders folders m))
@@ -150,7 +150,7 @@ read_once f next want what held steps value = (
   },
 )
 
-answers_to : (f : Held) (next : State) (want : Want) (what : What) → IsHeld f → Steps f.state want what next → AnswersTo (told_of f) (told_of (in_state next f)) want what
+answers_to : (f : Held) (next : State) (want : Want) (what : What) → IsHeld f → Steps f.state want what next → IsReplyTo (told_of f) (told_of (in_state next f)) want what
 answers_to f next Latest what held steps = read_once f next Latest what held steps (latest_read f.state next what steps)
 answers_to f next (Search number asked keys) what held steps = read_once f next (Search number asked keys) what held steps (search_read f.state next number asked keys what steps)
 answers_to f next (Which number) what held steps = step_once f next (Which number) what held steps
@@ -159,19 +159,19 @@ answers_to f next (Order id) what held steps = step_once f next (Order id) what 
 answers_to f next (Follow number id) what held steps = step_once f next (Follow number id) what held steps
 
 served : (o : Option Held) (folders now : List Held) (n : ℕ) (want : Want) (what : What) → ((f : Held) → o ≡ Some f → IsHeld f) → folder_in folders n ≡ o → ServesBy o folders n want what now
-    → IsAnswer (told_folders folders n) (told_folders now n) want what
+    → IsFolderReply (told_folders folders n) (told_folders now n) want what
 served None folders now n want what held there by =
-    subst (λ (a : Option Held). IsAnswer (option_map told_of a) (told_folders now n) want what) (sym there) by.0
+    subst (λ (a : Option Held). IsFolderReply (option_map told_of a) (told_folders now n) want what) (sym there) by.0
 served (Some f) folders now n want what held there by =
     let now_is : folder_in now n ≡ Some (in_state by.0 f) = ap (λ (fs : List Held). folder_in fs n) by.2 ∙ found_changed n by.0 folders f there in
-    subst (λ (a : Option Held). IsAnswer (option_map told_of a) (told_folders now n) want what) (sym there)
-    (subst (λ (a : Option Held). IsAnswer (Some (told_of f)) (option_map told_of a) want what) (sym now_is) (answers_to f by.0 want what (held f refl) by.1))
+    subst (λ (a : Option Held). IsFolderReply (option_map told_of a) (told_folders now n) want what) (sym there)
+    (subst (λ (a : Option Held). IsFolderReply (Some (told_of f)) (option_map told_of a) want what) (sym now_is) (answers_to f by.0 want what (held f refl) by.1))
 
 pub answers : (folders now : List Held) (sent frame : List ℕ) (mine : Request) (reply : Reply) → ((f : Held) → folder_in folders mine.folder.0 ≡ Some f → IsHeld f) → request_in sent ≡ Some mine → reply_in frame ≡ Some reply → reply.ask ≡ mine.ask
-    → Serves folders mine.folder.0 mine.want reply.what now → Answers (Some (told_folders folders)) (Some (told_folders now)) sent frame
+    → Serves folders mine.folder.0 mine.want reply.what now → IsReplyFrame (Some (told_folders folders)) (Some (told_folders now)) sent frame
 answers folders now sent frame mine reply held asked replied same what = λ request is.
     let some_is : ◌≡◌ {A = Option Request} (Some mine) (Some request) = sym asked ∙ is in
     let e : mine ≡ request = cc in
     let whole : reply_in frame ≡ Some (record { ask = mine.ask; what = reply.what }) = replied ∙ ap (λ a. Some (record { ask = a; what = reply.what })) same in
-    let P : Request → Type 0 = λ r. (w : What) × (reply_in frame ≡ Some (record { ask = r.ask; what = w })) × IsAnswer (told_folders folders r.folder.0) (told_folders now r.folder.0) r.want w in
+    let P : Request → Type 0 = λ r. (w : What) × (reply_in frame ≡ Some (record { ask = r.ask; what = w })) × IsFolderReply (told_folders folders r.folder.0) (told_folders now r.folder.0) r.want w in
     subst P e (reply.what, whole, served (folder_in folders mine.folder.0) folders now mine.folder.0 mine.want reply.what held refl what)

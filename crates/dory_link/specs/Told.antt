@@ -87,35 +87,35 @@ pub record IsStepAt (before now : Told) (want : Want) (what : What) (s next : St
   pub earlier : IsPrefix next.history now.history
 
 -- what a folder answers to a read
-abbrev pub Reads : Told → Told → Want → What → Type 0
-Reads before now want what = (history : List Entry) × IsReadAt before now want what history
+abbrev pub ReadsOnce : Told → Told → Want → What → Type 0
+ReadsOnce before now want what = (history : List Entry) × IsReadAt before now want what history
 
 -- what it answers to any other request
 abbrev pub StepsOnce : Told → Told → Want → What → Type 0
 StepsOnce before now want what = (s : State) × (next : State) × IsStepAt before now want what s next
 
 -- what a folder answers, by the request
-abbrev pub AnswersTo : Told → Told → Want → What → Type 0
-AnswersTo before now Latest what = Reads before now Latest what
-AnswersTo before now (Search number asked keys) what = Reads before now (Search number asked keys) what
-AnswersTo before now (Which number) what = StepsOnce before now (Which number) what
-AnswersTo before now (Stage e) what = StepsOnce before now (Stage e) what
-AnswersTo before now (Order id) what = StepsOnce before now (Order id) what
-AnswersTo before now (Follow number id) what = StepsOnce before now (Follow number id) what
+abbrev pub IsReplyTo : Told → Told → Want → What → Type 0
+IsReplyTo before now Latest what = ReadsOnce before now Latest what
+IsReplyTo before now (Search number asked keys) what = ReadsOnce before now (Search number asked keys) what
+IsReplyTo before now (Which number) what = StepsOnce before now (Which number) what
+IsReplyTo before now (Stage e) what = StepsOnce before now (Stage e) what
+IsReplyTo before now (Order id) what = StepsOnce before now (Order id) what
+IsReplyTo before now (Follow number id) what = StepsOnce before now (Follow number id) what
 
 -- what a folder answers: a value at a history between those before and after the call
-abbrev pub IsAnswer : Option Told → Option Told → Want → What → Type 0
-IsAnswer None now want what = what ≡ Refused NoFolder
-IsAnswer (Some before) None want what = ⊥
-IsAnswer (Some before) (Some now) want what = AnswersTo before now want what
+abbrev pub IsFolderReply : Option Told → Option Told → Want → What → Type 0
+IsFolderReply None now want what = what ≡ Refused NoFolder
+IsFolderReply (Some before) None want what = ⊥
+IsFolderReply (Some before) (Some now) want what = IsReplyTo before now want what
 
 -- the frame is a reply to the request that was sent
-abbrev pub Answers : Option (ℕ → Option Told) → Option (ℕ → Option Told) → List ℕ → List ℕ → Type 0
-Answers None now sent frame = ⊤
-Answers (Some before) None sent frame = ⊥
-Answers (Some before) (Some now) sent frame =
+abbrev pub IsReplyFrame : Option (ℕ → Option Told) → Option (ℕ → Option Told) → List ℕ → List ℕ → Type 0
+IsReplyFrame None now sent frame = ⊤
+IsReplyFrame (Some before) None sent frame = ⊥
+IsReplyFrame (Some before) (Some now) sent frame =
     (request : Request) → request_in sent ≡ Some request →
-    (what : What) × (reply_in frame ≡ Some (record { ask = request.ask; what = what })) × IsAnswer (before request.folder.0) (now request.folder.0) request.want what
+    (what : What) × (reply_in frame ≡ Some (record { ask = request.ask; what = what })) × IsFolderReply (before request.folder.0) (now request.folder.0) request.want what
 
 -- what a link tells, each part where it tells it: the exchanges, and the peer's folders by their numbers
 pub record Heard : Type 0 where
@@ -124,7 +124,7 @@ pub record Heard : Type 0 where
 
 -- where a frame came, it is a reply to the request that was sent
 abbrev pub CameFrom : {E : Type 0} → Option (ℕ → Option Told) → Option (ℕ → Option Told) → List ℕ → Result (List ℕ) E → Type 0
-CameFrom before now sent (Ok frame) = Answers before now sent frame
+CameFrom before now sent (Ok frame) = IsReplyFrame before now sent frame
 CameFrom before now sent (Err e) = ⊤
 
 -- an ask adds to the exchanges, histories only grow, and what came is a reply by a history between those before and after

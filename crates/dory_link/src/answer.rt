@@ -2,7 +2,7 @@
 ghost use Rattle.std.specs.Prelude.{◌≡◌, Some, None, IfOk, IsErrOf};
 ghost use Rattle.dory_wire.specs.declared.message.Request.{Request as Asked};
 ghost use Rattle.dory_wire.specs.Reading.{request_in};
-ghost use Rattle.dory_link.specs.Told.{Answers, Grows};
+ghost use Rattle.dory_link.specs.Told.{IsReplyFrame, Grows};
 ghost use Rattle.dory_link.specs.Folders.{told_folders};
 
 use dory_domain::DomainCore;
@@ -25,7 +25,7 @@ pub fn answer(
 ) -> Result<(Vec<u8>, Vec<u8>), AnswerError>
     ensures grown { Grows (Some (told_folders core.old.folders)) (Some (told_folders core.new.folders)) }
     ensures copied { IfOk result (λ frames. frames.1.items ≡ frames.0.items) }
-    ensures answers { IfOk result (λ frames. Answers (Some (told_folders core.old.folders)) (Some (told_folders core.new.folders)) request.now frames.0.items) }
+    ensures answers { IfOk result (λ frames. IsReplyFrame (Some (told_folders core.old.folders)) (Some (told_folders core.new.folders)) request.now frames.0.items) }
     ensures read { IfOk result (λ _. (asked : Asked) × (request_in request.now ≡ Some asked)) }
     ensures unread { IsErrOf result AnswerError.NoRequest → request_in request.now ≡ None }
 {

@@ -6,18 +6,18 @@ use Rattle.dory_base.specs.declared.ids.UpdateId.{UpdateId}
 use Rattle.dory_base.specs.Log.{number_from, last_after}
 use Rattle.dory_base.specs.Step.{rises}
 use Rattle.dory_log.specs.declared.own.Own.{Own}
-use Rattle.dory_log.specs.Own.{own_from, number_at, serial_after}
+use Rattle.dory_log.specs.Own.{own_from, number_among, serial_after}
 
 number_if : (c b : Bool) (n : ℕ) (x id : UpdateId) (xs : List UpdateId) → (x.member.0 == id.member.0) ≡ c → (x.serial == id.serial) ≡ b →
-    ((n : ℕ) → number_at (own_from n xs id.member.0) id.serial ≡ number_from n xs id) →
-    number_at (if c then record { serial = x.serial; number = n } ∷ own_from (n + 1) xs id.member.0 else own_from (n + 1) xs id.member.0) id.serial
+    ((n : ℕ) → number_among (own_from n xs id.member.0) id.serial ≡ number_from n xs id) →
+    number_among (if c then record { serial = x.serial; number = n } ∷ own_from (n + 1) xs id.member.0 else own_from (n + 1) xs id.member.0) id.serial
     ≡ (if c && b then Some n else number_from (n + 1) xs id)
-number_if true true n x id xs m s more = ap (λ (b : Bool). if b then Some n else number_at (own_from (n + 1) xs id.member.0) id.serial) s
-number_if true false n x id xs m s more = ap (λ (b : Bool). if b then Some n else number_at (own_from (n + 1) xs id.member.0) id.serial) s ∙ more (n + 1)
+number_if true true n x id xs m s more = ap (λ (b : Bool). if b then Some n else number_among (own_from (n + 1) xs id.member.0) id.serial) s
+number_if true false n x id xs m s more = ap (λ (b : Bool). if b then Some n else number_among (own_from (n + 1) xs id.member.0) id.serial) s ∙ more (n + 1)
 number_if false b n x id xs m s more = more (n + 1)
 
 -- the number of an id is in its member's own list
-pub own_number : (xs : List UpdateId) (id : UpdateId) (n : ℕ) → number_at (own_from n xs id.member.0) id.serial ≡ number_from n xs id
+pub own_number : (xs : List UpdateId) (id : UpdateId) (n : ℕ) → number_among (own_from n xs id.member.0) id.serial ≡ number_from n xs id
 own_number [] id n = refl
 own_number (x ∷ xs) id n = number_if (x.member.0 == id.member.0) (x.serial == id.serial) n x id xs refl refl (own_number xs id)
 

@@ -3,7 +3,7 @@ use Rattle.std.proofs.Common.{◌≡◌, ℕ, ◌+◌, ◌-◌, ◌<◌, ◌≤�
 use Rattle.std.specs.Prelude.{◌==◌, Bool, true, false, if◌then◌else◌, Option, Some, None, AllPairs}
 use Rattle.std.proofs.lemmas.Bool.{eq-eqb, ne_eqb, cases_eq, cases_order}
 use Rattle.dory_log.specs.declared.own.Own.{Own}
-use Rattle.dory_log.specs.Own.{number_at, serial_after}
+use Rattle.dory_log.specs.Own.{number_among, serial_after}
 
 at_if : (b : Bool) (o : Own) (x : Option ℕ) → b ≡ true → (if b then Some o.number else x) ≡ Some o.number
 at_if true o x e = refl
@@ -14,17 +14,17 @@ past_if true o x y e q = absurd (cc)
 past_if false o x y e q = q
 
 pub number_here : (os : List Own) (i s : ℕ) (d : Own) → ((k : ℕ) → k < i → (get_or os k d).serial < s) → i < length os → (get_or os i d).serial ≡ s →
-    number_at os s ≡ Some (get_or os i d).number
+    number_among os s ≡ Some (get_or os i d).number
 number_here [] i s d below lt e = absurd (omega arith)
-number_here (o ∷ os) zero s d below lt e = at_if (o.serial == s) o (number_at os s) (eq-eqb o.serial s e)
+number_here (o ∷ os) zero s d below lt e = at_if (o.serial == s) o (number_among os s) (eq-eqb o.serial s e)
 number_here (o ∷ os) (suc i) s d below lt e =
-    past_if (o.serial == s) o (number_at os s) (Some (get_or os i d).number) (ne_eqb o.serial s (λ q. omega (arith, below 0 (omega arith), q)))
+    past_if (o.serial == s) o (number_among os s) (Some (get_or os i d).number) (ne_eqb o.serial s (λ q. omega (arith, below 0 (omega arith), q)))
     (number_here os i s d (λ k l. below (suc k) (omega arith)) (omega arith) e)
 
-pub number_none : (os : List Own) (s : ℕ) (d : Own) → ((k : ℕ) → k < length os → (get_or os k d).serial ≡ s → ⊥) → number_at os s ≡ None
+pub number_none : (os : List Own) (s : ℕ) (d : Own) → ((k : ℕ) → k < length os → (get_or os k d).serial ≡ s → ⊥) → number_among os s ≡ None
 number_none [] s d apart = refl
 number_none (o ∷ os) s d apart =
-    past_if (o.serial == s) o (number_at os s) None (ne_eqb o.serial s (apart 0 (omega arith))) (number_none os s d (λ k l. apart (suc k) (omega arith)))
+    past_if (o.serial == s) o (number_among os s) None (ne_eqb o.serial s (apart 0 (omega arith))) (number_none os s d (λ k l. apart (suc k) (omega arith)))
 
 -- what the search knows: below low they are less, from high on they aren't
 pub record Halves (os : List Own) (low high s : ℕ) : Type 0 where
@@ -65,11 +65,11 @@ last_is l o (x ∷ os) d = last_is o.serial x os d
 
 -- where the halves have met, the serial is there or nowhere
 pub found_there : (os : List Own) (low high s : ℕ) → Halves os low high s → low < length os → (get_or os low (record { serial = 0; number = 0 })).serial ≡ s →
-    number_at os s ≡ Some (get_or os low (record { serial = 0; number = 0 })).number
+    number_among os s ≡ Some (get_or os low (record { serial = 0; number = 0 })).number
 found_there os low high s h lt e = number_here os low s (record { serial = 0; number = 0 }) h.below lt e
 
 pub found_nowhere : (os : List Own) (low high s : ℕ) → AllPairs (λ a b. a.serial < b.serial) os → Halves os low high s → high ≤ low →
-    (low < length os → (get_or os low (record { serial = 0; number = 0 })).serial ≡ s → ⊥) → number_at os s ≡ None
+    (low < length os → (get_or os low (record { serial = 0; number = 0 })).serial ≡ s → ⊥) → number_among os s ≡ None
 found_nowhere os low high s r h met not_there = number_none os s (record { serial = 0; number = 0 }) (λ k lt e. apart k lt e (cases_order k low))
   where
     apart : (k : ℕ) → k < length os → (get_or os k (record { serial = 0; number = 0 })).serial ≡ s → ((k ≡ low) ⊎ ((k < low) ⊎ (low < k))) → ⊥

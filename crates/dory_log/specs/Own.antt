@@ -21,9 +21,9 @@ abbrev pub own_at : List (Vec Own Global) → ℕ → List Own
 own_at lists member = items_of (slice_get lists member)
 
 -- the number of the update with a serial
-abbrev pub number_at : List Own → ℕ → Option ℕ
-number_at [] serial = None
-number_at (o ∷ own) serial = if o.serial == serial then Some o.number else number_at own serial
+abbrev pub number_among : List Own → ℕ → Option ℕ
+number_among [] serial = None
+number_among (o ∷ own) serial = if o.serial == serial then Some o.number else number_among own serial
 
 -- the serial of the last update, or this one where there is none
 abbrev pub serial_after : ℕ → List Own → ℕ

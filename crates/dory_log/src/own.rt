@@ -1,6 +1,6 @@
 //! One member's committed updates, in the order of their serials.
 ghost use Rattle.std.specs.Prelude.{◌≡◌, ◌<◌, AllPairs};
-ghost use Rattle.dory_log.specs.Own.{number_at, serial_after};
+ghost use Rattle.dory_log.specs.Own.{number_among, serial_after};
 
 /// A committed update of a member: its serial and its number.
 #[derive(Clone, Copy, Debug, PartialEq, Eq)]
@@ -12,7 +12,7 @@ pub struct Own {
 /// The number of the update with this serial.
 pub fn find(own: &[Own], serial: u64) -> Option<u32>
     requires { AllPairs (λ a b. a.serial < b.serial) own.now }
-    ensures { result ≡ number_at own.now serial }
+    ensures { result ≡ number_among own.now serial }
 {
     let mut low = 0;
     let mut high = own.len();

@@ -7,4 +7,4 @@ pub mod Queries
 pub mod TextLaws
 pub mod MoreReplies
 pub mod CourseLaws
-pub mod HeardLaws
+pub mod ConfirmationLaws

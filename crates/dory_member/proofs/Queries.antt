@@ -18,7 +18,7 @@ use Rattle.dory_verify.specs.Listing.{Lists, listed_in}
 use Rattle.dory_member.specs.declared.outcome.Outcome.TheVariants.{Accepted}
 use Rattle.dory_member.specs.declared.phase.Phase.TheVariants.{Ended, Searching}
 use Rattle.dory_member.specs.declared.phase.Run.{Run}
-use Rattle.dory_member.specs.Course.{after_search, answer_of, folder_keys, name, query_of}
+use Rattle.dory_member.specs.Course.{after_search, answer_by, folder_keys, name, query_of}
 use Rattle.dory_member.specs.Within.{IsQuery}
 use Rattle.dory_member.proofs.RisingLaws.{docs_rise, rising_docs}
 
@@ -35,7 +35,7 @@ query_is run word version keys q e columns shape number asks lead follow =
     let follow' = rw e at follow in
     λ i. Searching (record { word_columns = columns' i; shape = shape i; version = number i; asks = asks i; lead_keys = lead' i; follow_keys = follow' i }) None
 
-answer_is : (keys : FolderKeys) (q : Query) (lead follow : Found) (answer : Answer) → Lists keys (asked_columns q) q.version lead follow answer → answer ≡ answer_of keys q lead follow
+answer_is : (keys : FolderKeys) (q : Query) (lead follow : Found) (answer : Answer) → Lists keys (asked_columns q) q.version lead follow answer → answer ≡ answer_by keys q lead follow
 answer_is keys q lead follow answer lists =
     let docs = rising_docs (listed_in keys (asked_columns q) lead follow) answer.docs lists.docs in
     λ i. record { version = lists.named i; docs = docs i }
@@ -69,5 +69,5 @@ query_range q shape version dims few same number lead follow = record {
 }
 
 -- the answer to a search lists what was found
-pub lists_answer : (keys : FolderKeys) (q : Query) (lead follow : Found) → Lists keys (asked_columns q) q.version lead follow (answer_of keys q lead follow)
+pub lists_answer : (keys : FolderKeys) (q : Query) (lead follow : Found) → Lists keys (asked_columns q) q.version lead follow (answer_by keys q lead follow)
 lists_answer keys q lead follow = record { named = refl; docs = docs_rise (listed_in keys (asked_columns q) lead follow) }

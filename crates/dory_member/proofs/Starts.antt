@@ -10,16 +10,16 @@ use Rattle.dory_member.specs.declared.outcome.Fault.TheVariants as fault
 use Rattle.dory_member.specs.declared.outcome.Outcome.{Outcome}
 use Rattle.dory_member.specs.declared.phase.Phase.{Phase}
 use Rattle.dory_member.specs.declared.phase.Run.{Run}
-use Rattle.dory_member.specs.Course.{asking, ended, id_of, if_finished, if_serial, posting, refused_if, update_run}
+use Rattle.dory_member.specs.Course.{asking, ended_with, id_of, if_finished, if_serial, posting, refused_if, update_run}
 use Rattle.dory_member.specs.Draw.{drawn, is_last_epoch, is_last_serial, is_used_up, ready}
 use Rattle.dory_member.specs.Machine.{IsRefused, begins}
-use Rattle.dory_member.specs.Within.{IsNamed, IsRun, IsSeen, Within}
+use Rattle.dory_member.specs.Within.{AsksNamed, RunInRange, IsSeen, Within}
 use Rattle.dory_member.proofs.Entries.{entry_range}
 use Rattle.dory_member.proofs.Kept.{drawn_is, with_pending_is}
 
 -- a new update that begins
 pub update_run_is : (k : KeptState) (seed : List ℕ) (used : ℕ) (p : Pending) → IsKeptState k → k.next_serial < 18446744073709551615 → used ≤ 65536
-    → p.serial ≡ k.next_serial → IsPending k.shape (2 ^ 64) p → IsRun (update_run k seed used p)
+    → p.serial ≡ k.next_serial → IsPending k.shape (2 ^ 64) p → RunInRange (update_run k seed used p)
 update_run_is k seed used p h left le same is =
     let below : p.serial < k.next_serial + 1 = omega arith in
     let past : IsPending k.shape (k.next_serial + 1) p = record { serial = is.serial; past = below; doc = is.doc; row = is.row } in
@@ -32,7 +32,7 @@ update_run_is k seed used p h left le same is =
 
 -- a command that asks and has no new update
 pub asking_is : (k : KeptState) (seed : List ℕ) (phase : Phase) → IsKeptState k → k.next_serial < 18446744073709551615
-    → IsNamed (asking k seed k.used phase) phase → Within phase 0 → IsRun (asking k seed k.used phase)
+    → AsksNamed (asking k seed k.used phase) phase → Within phase 0 → RunInRange (asking k seed k.used phase)
 asking_is k seed phase h left named within = record {
   kept = drawn_is k k.used h left h.used;
   serial = omega (arith, left);
@@ -41,7 +41,7 @@ asking_is k seed phase h left named within = record {
 }
 
 -- a command that asks nothing
-pub ended_is : (k : KeptState) (seed : List ℕ) (o : Outcome) → IsKeptState k → IsSeen o → IsRun (ended k seed o)
+pub ended_is : (k : KeptState) (seed : List ℕ) (o : Outcome) → IsKeptState k → IsSeen o → RunInRange (ended_with k seed o)
 ended_is k seed o h seen = record { kept = h; serial = omega arith; named = tt; phase = seen }
 
 -- a refusal stays one when a run is made a machine

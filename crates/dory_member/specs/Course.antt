@@ -161,13 +161,13 @@ after_lengths run None (Ok n) = Ended (Lengths n.0 n.1 run.kept.seen)
 after_lengths run (Some word) (Ok n) = Searching (query_of run word (lesser n.0 n.1)) None
 
 -- the answer that two replies to a search give
-abbrev pub answer_of : FolderKeys → Query → Found → Found → Answer
-answer_of keys q lead follow = record { version = q.version; docs = docs_of (listed_in keys (asked_columns q) lead follow) }
+abbrev pub answer_by : FolderKeys → Query → Found → Found → Answer
+answer_by keys q lead follow = record { version = q.version; docs = docs_of (listed_in keys (asked_columns q) lead follow) }
 
 -- where what a pair of replies to a search comes to leads
 abbrev pub after_search : FolderKeys → Query → Result (Found × Found) CheckFault → Phase
 after_search keys q (Err f) = fails (fault.Check f)
-after_search keys q (Ok both) = Ended (Accepted (answer_of keys q both.0 both.1))
+after_search keys q (Ok both) = Ended (Accepted (answer_by keys q both.0 both.1))
 
 -- Where a frame leads. Of a pair, the lead's is held until the follower's came, and then both are checked.
 abbrev pub phase_after : Run → Phase → List ℕ → Phase
@@ -236,8 +236,8 @@ abbrev pub asking : KeptState → List ℕ → ℕ → Phase → Run
 asking k seed used phase = record { kept = drawn k used; seed = seed; serial = k.next_serial; step = 0; phase = phase }
 
 -- a command that asks nothing
-abbrev pub ended : KeptState → List ℕ → Outcome → Run
-ended k seed outcome = record { kept = k; seed = seed; serial = 0; step = 0; phase = Ended outcome }
+abbrev pub ended_with : KeptState → List ℕ → Outcome → Run
+ended_with k seed outcome = record { kept = k; seed = seed; serial = 0; step = 0; phase = Ended outcome }
 
 -- a refusal, where there is a cause
 abbrev pub refused_if : Bool → Fault → Result Run Fault → Result Run Fault
@@ -276,7 +276,7 @@ if_finished k None begun = begun
 
 -- the pending update is taken up again, under its own id, or there is none
 abbrev pub resumed : KeptState → List ℕ → Option Pending → Result Run Fault
-resumed k seed None = Ok (ended k seed NothingPending)
+resumed k seed None = Ok (ended_with k seed NothingPending)
 resumed k seed (Some p) = if_serial k (Ok (asking k seed k.used (Updating (entry_of k p) StageFollow)))
 
 -- how a command begins, or why it is refused
@@ -288,7 +288,7 @@ begun k seed (command.Search word) = if_serial k (Ok (asking k seed k.used (Meas
 begun k seed command.Resume = resumed k seed k.pending
 begun k seed command.Latest = if_serial k (Ok (asking k seed k.used (Measuring None None)))
 begun k seed command.Rotate =
-    refused_if (is_last_epoch k) fault.EpochEnd (Ok (ended (turned k) seed (Rotated (epoch_in (turned k).next_serial))))
+    refused_if (is_last_epoch k) fault.EpochEnd (Ok (ended_with (turned k) seed (Rotated (epoch_in (turned k).next_serial))))
 
 -- a run, or the fault that there is
 abbrev pub or_fault : Option Fault → Run → Result Run Fault
@@ -296,8 +296,8 @@ or_fault None run = Ok run
 or_fault (Some f) run = Err f
 
 -- the request of an ask at a run's step
-abbrev pub request_of : Run → Ask → Request
-request_of run ask = record { ask = name run run.step; folder = run.kept.folder; want = ask.want }
+abbrev pub ask_request : Run → Ask → Request
+ask_request run ask = record { ask = name run run.step; folder = run.kept.folder; want = ask.want }
 
 -- a request, and the domain that it is put to
 abbrev pub Put : Type 0
@@ -306,7 +306,7 @@ Put = Side × Request
 -- what is put to a domain at a run's step, if anything is
 abbrev pub put_at : Run → Option Ask → List Put
 put_at run None = []
-put_at run (Some ask) = (ask.side, request_of run ask) ∷ []
+put_at run (Some ask) = (ask.side, ask_request run ask) ∷ []
 
 -- the run after these replies
 abbrev pub run_after : Run → List (List ℕ) → Run

@@ -7,4 +7,4 @@ pub mod Within
 pub mod Stands
 pub mod Texts
 pub mod Whole
-pub mod Heard
+pub mod Confirmation

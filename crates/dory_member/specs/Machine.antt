@@ -18,7 +18,7 @@ use Rattle.dory_member.specs.declared.phase.Phase.TheVariants.{Updating, Measuri
 use Rattle.dory_member.specs.declared.phase.Run.{Run}
 use Rattle.dory_member.specs.declared.next.Next.{Next}
 use Rattle.dory_member.specs.declared.next.Next.TheVariants as next
-use Rattle.dory_member.specs.Course.{Ask, asks, begun, took, moved, fails, outcome_at, request_of}
+use Rattle.dory_member.specs.Course.{Ask, asks, begun, took, moved, fails, outcome_at, ask_request}
 
 -- a command as it runs, and whether its state has to be saved before it goes on
 pub record Machine : Type 0 where
@@ -50,12 +50,12 @@ saves_last (Searching q lead) = false
 saves_last (Ended outcome) = keeps outcome
 
 -- a run that begins
-abbrev pub first_of : Run → Machine
-first_of run = record { run = run; unsaved = saves_first run.phase }
+abbrev pub just_begun : Run → Machine
+just_begun run = record { run = run; unsaved = saves_first run.phase }
 
 -- how a command begins
 abbrev pub begins : Result Run Fault → Result Machine Fault
-begins (Ok run) = Ok (first_of run)
+begins (Ok run) = Ok (just_begun run)
 begins (Err f) = Err f
 
 -- the machine that a command is at first, or why it is refused
@@ -68,21 +68,21 @@ IsRefused fault.NoMemory made = Unit {0}
 IsRefused f made = made ≡ Err f
 
 -- unless memory runs out, it begins so
-abbrev pub Begins : {Y : Type 0} → Result Y Fault → Result Y Fault → Type 0
-Begins (Ok m) made = made ≡ Ok m
-Begins (Err f) made = IsRefused f made
+abbrev pub BeginsBy : {Y : Type 0} → Result Y Fault → Result Y Fault → Type 0
+BeginsBy (Ok m) made = made ≡ Ok m
+BeginsBy (Err f) made = IsRefused f made
 
 -- a run that goes on after a reply
-abbrev pub next_of : Run → Machine
-next_of run = record { run = run; unsaved = saves_last run.phase }
+abbrev pub going_on : Run → Machine
+going_on run = record { run = run; unsaved = saves_last run.phase }
 
 -- a reply is taken
-abbrev pub taken : Machine → List ℕ → Machine
-taken m frame = next_of (took m.run frame)
+abbrev pub reply_taken : Machine → List ℕ → Machine
+reply_taken m frame = going_on (took m.run frame)
 
 -- memory ran out where a reply was taken, which ends the command
 abbrev pub ran_out : Machine → Machine
-ran_out m = next_of (moved m.run (fails fault.NoMemory))
+ran_out m = going_on (moved m.run (fails fault.NoMemory))
 
 -- what a member does next: it saves, it asks a domain by a frame, or it is at its end
 pub data Turn : Type 0 where
@@ -98,7 +98,7 @@ seen next.End = Ends
 
 -- the frame of an ask
 abbrev pub frame_at : Run → Ask → List ℕ
-frame_at run ask = frame_of (spelling_of_request (request_of run ask))
+frame_at run ask = frame_of (spelling_of_request (ask_request run ask))
 
 -- a frame is the one spelling of a request in range, and is read as that request
 pub record IsFrameOf (r : Request) (frame : List ℕ) : Type 0 where
@@ -137,7 +137,7 @@ is_saving (Asks side frame) = false
 is_saving Ends = false
 
 -- it waits for a reply
-abbrev pub is_asking : Turn → Bool
-is_asking Saves = false
-is_asking (Asks side frame) = true
-is_asking Ends = false
+abbrev pub waits_for_reply : Turn → Bool
+waits_for_reply Saves = false
+waits_for_reply (Asks side frame) = true
+waits_for_reply Ends = false

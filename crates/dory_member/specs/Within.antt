@@ -80,15 +80,15 @@ Within (Searching q (Some lead)) step = IsQuery q × (step ≤ 3)
 Within (Ended outcome) step = IsSeen outcome
 
 -- a search's asks are the third and the fourth of its run
-abbrev pub IsNamed : Run → Phase → Type 0
-IsNamed run (Searching q lead) = q.asks ≡ name run 2 ∷ name run 3 ∷ []
-IsNamed run (Updating e at) = Unit {0}
-IsNamed run (Measuring word lead) = Unit {0}
-IsNamed run (Ended outcome) = Unit {0}
+abbrev pub AsksNamed : Run → Phase → Type 0
+AsksNamed run (Searching q lead) = q.asks ≡ name run 2 ∷ name run 3 ∷ []
+AsksNamed run (Updating e at) = Unit {0}
+AsksNamed run (Measuring word lead) = Unit {0}
+AsksNamed run (Ended outcome) = Unit {0}
 
 -- what is true of a run
-pub record IsRun (run : Run) : Type 0 where
+pub record RunInRange (run : Run) : Type 0 where
   pub kept : IsKeptState run.kept
   pub serial : run.serial < 2 ^ 64
-  pub named : IsNamed run run.phase
+  pub named : AsksNamed run run.phase
   pub phase : Within run.phase run.step

@@ -5,10 +5,10 @@ ghost use Rattle.dory_member.specs.declared.command.Command.TheVariants.{Latest,
 ghost use Rattle.dory_state.specs.declared.kept.KeptState.{KeptState as KeptOf};
 ghost use Rattle.dory_member.specs.declared.phase.Phase.TheVariants.{Measuring};
 ghost use Rattle.dory_base.specs.declared.ids.DocId.{DocId as DocOf};
-ghost use Rattle.dory_member.specs.Course.{asking, begun, ended, id_of, if_serial, or_fault, posting, removing, update_run};
+ghost use Rattle.dory_member.specs.Course.{asking, begun, ended_with, id_of, if_serial, or_fault, posting, removing, update_run};
 ghost use Rattle.dory_member.specs.Draw.{is_last_epoch, is_used_up, ready};
-ghost use Rattle.dory_member.specs.Machine.{Begins};
-ghost use Rattle.dory_member.specs.Within.{FitsCommand, IsNamed, IsRun, IsSeen, Within};
+ghost use Rattle.dory_member.specs.Machine.{BeginsBy};
+ghost use Rattle.dory_member.specs.Within.{FitsCommand, AsksNamed, RunInRange, IsSeen, Within};
 
 use crate::command::Command;
 use crate::draw::{draw, epoch_in, is_last_epoch, is_last_serial, is_spent, is_used_up, turn};
@@ -40,10 +40,10 @@ fn drawn_run(mut kept: KeptState, seed: &[u8; 32], phase: Phase) -> Run
 fn asking(kept: KeptState, seed: &[u8; 32], phase: Phase) -> Run
     requires state { IsKeptState kept }
     requires left { kept.next_serial < 18446744073709551615 }
-    requires named { IsNamed (asking kept seed.now kept.used phase) phase }
+    requires named { AsksNamed (asking kept seed.now kept.used phase) phase }
     requires within { Within phase 0 }
     ensures value { result ≡ asking kept seed.now kept.used phase }
-    ensures range { IsRun result }
+    ensures range { RunInRange result }
 {
     drawn_run(kept, seed, phase)
 }
@@ -52,8 +52,8 @@ fn asking(kept: KeptState, seed: &[u8; 32], phase: Phase) -> Run
 fn ended(kept: KeptState, seed: &[u8; 32], outcome: Outcome) -> Run
     requires state { IsKeptState kept }
     requires seen { IsSeen outcome }
-    ensures value { result ≡ ended kept seed.now outcome }
-    ensures range { IsRun result }
+    ensures value { result ≡ ended_with kept seed.now outcome }
+    ensures range { RunInRange result }
 {
     Run {
         kept,
@@ -107,7 +107,7 @@ fn update_run(
     requires serial { update.serial ≡ kept.next_serial }
     requires update { IsPending kept.shape (2 ^ 64) update }
     ensures value { IfOk result (λ run. run ≡ update_run kept seed.now used update) }
-    ensures range { IfOk result IsRun }
+    ensures range { IfOk result RunInRange }
 {
     match pending_run(alloc, kept, seed, used, update) {
         Ok(run) => Ok(run),
@@ -129,7 +129,7 @@ fn posting(
     requires doc { doc.0 < 2 ^ 32 }
     requires row { length row ≡ 2 ^ kept.shape.depth }
     ensures value { IfOk result (λ run. run ≡ posting kept seed.now doc row) }
-    ensures range { IfOk result IsRun }
+    ensures range { IfOk result RunInRange }
 {
     let used = kept.used + 1;
     let update = Pending {
@@ -146,7 +146,7 @@ fn removing(alloc: Global, kept: KeptState, seed: &[u8; 32], doc: DocId) -> Resu
     requires left { kept.next_serial < 18446744073709551615 }
     requires doc { doc.0 < 2 ^ 32 }
     ensures value { IfOk result (λ run. run ≡ removing kept seed.now doc) }
-    ensures range { IfOk result IsRun }
+    ensures range { IfOk result RunInRange }
 {
     let counted = kept.used;
     let update = Pending {
@@ -200,8 +200,8 @@ fn begin_post(
 ) -> Result<Run, Fault>
     requires state { IsKeptState state }
     requires row { length row ≡ 2 ^ state.shape.depth }
-    ensures value { Begins result (begun state seed.now (Post (record { 0 = number }) row)) }
-    ensures range { IfOk result IsRun }
+    ensures value { BeginsBy result (begun state seed.now (Post (record { 0 = number }) row)) }
+    ensures range { IfOk result RunInRange }
 {
     if let Some(update) = &state.pending {
         let id = id_of(state.member, update);
@@ -227,8 +227,8 @@ fn begin_removal(
     number: u32,
 ) -> Result<Run, Fault>
     requires { IsKeptState state }
-    ensures value { Begins result (begun state seed.now (Remove (record { 0 = number }))) }
-    ensures range { IfOk result IsRun }
+    ensures value { BeginsBy result (begun state seed.now (Remove (record { 0 = number }))) }
+    ensures range { IfOk result RunInRange }
 {
     if let Some(update) = &state.pending {
         let id = id_of(state.member, update);
@@ -247,7 +247,7 @@ fn begin_removal(
 fn begin_measuring(state: KeptState, seed: &[u8; 32], word: Option<Word>) -> Result<Run, Fault>
     requires { IsKeptState state }
     ensures value { result ≡ if_serial state (Ok (asking state seed.now state.used (Measuring word None))) }
-    ensures range { IfOk result IsRun }
+    ensures range { IfOk result RunInRange }
 {
     if is_last_serial(&state) {
         return Err(Fault::SerialEnd);
@@ -258,8 +258,8 @@ fn begin_measuring(state: KeptState, seed: &[u8; 32], word: Option<Word>) -> Res
 
 fn begin_resumption(alloc: Global, state: KeptState, seed: &[u8; 32]) -> Result<Run, Fault>
     requires { IsKeptState state }
-    ensures value { Begins result (begun state seed.now Resume) }
-    ensures range { IfOk result IsRun }
+    ensures value { BeginsBy result (begun state seed.now Resume) }
+    ensures range { IfOk result RunInRange }
 {
     let Some(update) = &state.pending else {
         return Ok(ended(state, seed, Outcome::NothingPending));
@@ -277,7 +277,7 @@ fn begin_resumption(alloc: Global, state: KeptState, seed: &[u8; 32]) -> Result<
 fn begin_rotation(mut state: KeptState, seed: &[u8; 32]) -> Result<Run, Fault>
     requires { IsKeptState state }
     ensures value { result ≡ begun state seed.now Rotate }
-    ensures range { IfOk result IsRun }
+    ensures range { IfOk result RunInRange }
 {
     if is_last_epoch(&state) {
         return Err(Fault::EpochEnd);
@@ -296,8 +296,8 @@ pub fn begun(
 ) -> Result<Run, Fault>
     requires state { IsKeptState state }
     requires row { FitsCommand state.shape command }
-    ensures value { Begins result (begun state seed.now command) }
-    ensures range { IfOk result IsRun }
+    ensures value { BeginsBy result (begun state seed.now command) }
+    ensures range { IfOk result RunInRange }
 {
     match command {
         Command::Post { doc, row } => begin_post(alloc, state, seed, doc.0, row),

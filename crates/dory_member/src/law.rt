@@ -17,8 +17,8 @@ ghost use Rattle.dory_member.specs.declared.phase.Run.{Run};
 ghost use Rattle.dory_member.specs.declared.phase.Single.{Single};
 ghost use Rattle.dory_member.specs.declared.phase.Single.TheVariants as single;
 ghost use Rattle.dory_member.specs.declared.phase.UpdateStep.TheVariants.{StageFollow};
-ghost use Rattle.dory_member.specs.Course.{answer_of, asked_of, asks, ended_of, lesser, name, outcome_at, put_at, query_of, run_after, took, updated};
-ghost use Rattle.dory_member.specs.Heard.{Heard};
+ghost use Rattle.dory_member.specs.Course.{answer_by, asked_of, asks, ended_of, lesser, name, outcome_at, put_at, query_of, run_after, took, updated};
+ghost use Rattle.dory_member.specs.Confirmation.{Confirmation};
 ghost use Rattle.dory_member.specs.Single.{confirmed};
 ghost use Rattle.dory_member.specs.Whole.{search_asks, start, update_asks};
 
@@ -51,10 +51,10 @@ pub fn whole_commands()
 
 /// A frame that confirms what it was asked is one whole reply to that ask, which says so.
 pub fn confirmed_replies()
-    ensures { (side : Side) (ask : Single) (asked : AskId) (frame : List ℕ) (m : Mark) → confirmed side ask asked frame ≡ Ok m → Heard side ask asked frame m }
+    ensures { (side : Side) (ask : Single) (asked : AskId) (frame : List ℕ) (m : Mark) → confirmed side ask asked frame ≡ Ok m → Confirmation side ask asked frame m }
 {}
 
 /// The answer to a search names its version, and lists what the two replies found, rising.
 pub fn answers()
-    ensures { (keys : FolderKeys) (q : Query) (lead follow : Found) → Lists keys (asked_columns q) q.version lead follow (answer_of keys q lead follow) }
+    ensures { (keys : FolderKeys) (q : Query) (lead follow : Found) → Lists keys (asked_columns q) q.version lead follow (answer_by keys q lead follow) }
 {}

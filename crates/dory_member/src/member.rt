@@ -3,9 +3,9 @@ ghost use Rattle.std.specs.Prelude.{◌≡◌, ◌⊎◌, ◌<◌, ◌≤◌, �
 ghost use Rattle.dory_state.specs.Spelling.{IsKeptState};
 ghost use Rattle.dory_wire.specs.Spelling.{IsAsk};
 ghost use Rattle.dory_member.specs.declared.outcome.Fault.TheVariants as fault;
-ghost use Rattle.dory_member.specs.Course.{Ask as AskOf, asks, fails, finished, kept_at, name, outcome_at, phase_after, request_of, settled};
-ghost use Rattle.dory_member.specs.Machine.{AsksBy, Begins, IsFramed, began, first_of, is_asking, is_saving, keeps, outcome_of, ran_out, saves_first, saves_last, seen, taken, turn_of};
-ghost use Rattle.dory_member.specs.Within.{FitsCommand, IsNamed, IsRun, IsSeen, Within};
+ghost use Rattle.dory_member.specs.Course.{Ask as AskOf, asks, fails, finished, kept_at, name, outcome_at, phase_after, ask_request, settled};
+ghost use Rattle.dory_member.specs.Machine.{AsksBy, BeginsBy, IsFramed, began, just_begun, waits_for_reply, is_saving, keeps, outcome_of, ran_out, saves_first, saves_last, seen, reply_taken, turn_of};
+ghost use Rattle.dory_member.specs.Within.{FitsCommand, AsksNamed, RunInRange, IsSeen, Within};
 
 use crate::begin::begun;
 use crate::command::Command;
@@ -133,11 +133,11 @@ fn out_of_memory(alloc: Global) -> Framed
 fn turned(alloc: Global, run: &Run, phase: Phase, reply: &[u8]) -> Framed
     requires kept { IsKeptState run.now.kept }
     requires serial { run.now.serial < 2 ^ 64 }
-    requires named { IsNamed run.now phase }
+    requires named { AsksNamed run.now phase }
     requires within { Within phase run.now.step }
     requires steps { run.now.step ≤ 2097157 }
     ensures phase { (result.phase ≡ phase_after run.now phase reply.now) ⊎ (result.phase ≡ fails fault.NoMemory) }
-    ensures named { IsNamed run.now result.phase }
+    ensures named { AsksNamed run.now result.phase }
     ensures within { Within result.phase (run.now.step + 1) }
     ensures frame { IsFramed (name run.now (run.now.step + 1)) run.now.kept.folder (asks result.phase) result.frame }
 {
@@ -173,8 +173,8 @@ impl Model for Member {
 
 /// A run that begins.
 fn first(alloc: Global, run: Run) -> Result<Member, Fault>
-    requires { IsRun run }
-    ensures { Begins result (Ok (first_of run)) }
+    requires { RunInRange run }
+    ensures { BeginsBy result (Ok (just_begun run)) }
 {
     let asked = asked(&run, run.step);
     let Run {
@@ -214,7 +214,7 @@ impl Member {
     ) -> Result<Member, Fault>
         requires state { IsKeptState state }
         requires row { FitsCommand state.shape command }
-        ensures { Begins result (began state seed command) }
+        ensures { BeginsBy result (began state seed command) }
     {
         match begun(alloc, state, &seed, command) {
             Ok(run) => first(alloc, run),
@@ -226,9 +226,9 @@ impl Member {
     pub fn next(&self) -> Next<'_>
         ensures turn { seen result ≡ turn_of self.now }
         // What is asked is read as the request.
-        ensures request { (ask : AskOf) → asks self.now.run.phase ≡ Some ask → AsksBy (request_of self.now.run ask) result }
+        ensures request { (ask : AskOf) → asks self.now.run.phase ≡ Some ask → AsksBy (ask_request self.now.run ask) result }
         // A command asks this often at most.
-        ensures few { is_asking (seen result) ≡ true → self.now.run.step ≤ 2097157 }
+        ensures few { waits_for_reply (seen result) ≡ true → self.now.run.step ≤ 2097157 }
     {
         if self.unsaved {
             return Next::Save;
@@ -252,8 +252,8 @@ impl Member {
 
     /// A reply came to the last ask, as these bytes. Where memory runs out, that is how the command ends.
     pub fn take_reply(&mut self, alloc: Global, frame: &[u8])
-        requires { is_asking (turn_of self.old) ≡ true }
-        ensures { (self.new ≡ taken self.old frame.now) ⊎ (self.new ≡ ran_out self.old) }
+        requires { waits_for_reply (turn_of self.old) ≡ true }
+        ensures { (self.new ≡ reply_taken self.old frame.now) ⊎ (self.new ≡ ran_out self.old) }
     {
         let phase = mem::replace(&mut self.run.phase, failed(Fault::NoMemory));
         let Framed { phase, frame } = turned(alloc, &self.run, phase, frame);

@@ -1,7 +1,7 @@
 //! The text of an outcome.
 ghost use Rattle.std.specs.Prelude.{◌≡◌, IfOk, Some, string_bytes};
 ghost use Rattle.dory_member.specs.declared.outcome.Outcome.TheVariants.{Accepted};
-ghost use Rattle.dory_member.specs.Texts.{fault_text, mark_text, text_of};
+ghost use Rattle.dory_member.specs.Texts.{command_fault_text, mark_text, text_of_outcome};
 
 use crate::outcome::{Fault, Mark, Outcome};
 use dory_base::NoMemory;
@@ -20,7 +20,7 @@ impl fmt::Display for Mark {
 }
 
 impl fmt::Display for Fault {
-    ghost output = { λ fault. Some (fault_text fault) };
+    ghost output = { λ fault. Some (command_fault_text fault) };
 
     fn fmt<W: fmt::Write>(&self, f: &mut fmt::Formatter<W>) -> fmt::Result {
         match self {
@@ -40,9 +40,9 @@ impl fmt::Display for Fault {
 }
 
 /// The version, and each document after a space.
-#[tactic(auto, unfolding(crate::specs::Texts::text_of))]
+#[tactic(auto, unfolding(crate::specs::Texts::text_of_outcome))]
 fn answer_text(alloc: Global, answer: &Answer) -> Result<String, NoMemory>
-    ensures { IfOk result (λ text. string_bytes text ≡ text_of (Accepted answer.now)) }
+    ensures { IfOk result (λ text. string_bytes text ≡ text_of_outcome (Accepted answer.now)) }
 {
     let version = answer.version;
     let mut line = format!(in alloc; "version {version}:")?;
@@ -54,9 +54,9 @@ fn answer_text(alloc: Global, answer: &Answer) -> Result<String, NoMemory>
 }
 
 /// The text of an outcome, without a line end.
-#[tactic(auto, unfolding(crate::specs::Texts::text_of))]
+#[tactic(auto, unfolding(crate::specs::Texts::text_of_outcome))]
 pub fn outcome_text(alloc: Global, outcome: &Outcome) -> Result<String, NoMemory>
-    ensures { IfOk result (λ text. string_bytes text ≡ text_of outcome.now) }
+    ensures { IfOk result (λ text. string_bytes text ≡ text_of_outcome outcome.now) }
 {
     match outcome {
         Outcome::Posted { doc, number } => {

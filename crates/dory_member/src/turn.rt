@@ -6,7 +6,7 @@ ghost use Rattle.dory_verify.specs.Checks.{Finds, Verifies, first_fault_of, leng
 ghost use Rattle.dory_query.specs.Columns.{asked_columns};
 ghost use Rattle.dory_member.specs.declared.phase.Phase.TheVariants.{Searching, Updating};
 ghost use Rattle.dory_member.specs.Course.{after_fault, after_lengths, after_mark, after_refused, after_search, fails, folder_keys, name, phase_after, query_of, side_of, single_of, updated};
-ghost use Rattle.dory_member.specs.Within.{IsInRange, IsMarkOf, IsNamed, IsQuery, IsSeen, Within, asks_before};
+ghost use Rattle.dory_member.specs.Within.{IsInRange, IsMarkOf, AsksNamed, IsQuery, IsSeen, Within, asks_before};
 
 use crate::checks::confirmed;
 use crate::frame::Frame;
@@ -223,7 +223,7 @@ fn after_lengths(
     requires kept { IsKeptState run.now.kept }
     requires steps { run.now.step ≤ 1 }
     ensures value { IfOk result (λ p. p ≡ after_lengths run.now word (lengths_of run.now.kept.seen (name run.now 0) (name run.now 1) lead.now follow.now)) }
-    ensures named { IfOk result (λ p. IsNamed run.now p) }
+    ensures named { IfOk result (λ p. AsksNamed run.now p) }
     ensures within { IfOk result (λ p. Within p (run.now.step + 1)) }
 {
     match lengths(alloc, run, lead, follow) {
@@ -274,7 +274,7 @@ fn after_search(
     requires named { query.now.asks ≡ name run.now 2 ∷ name run.now 3 ∷ [] }
     requires version { query.now.version ≤ 1048576 }
     ensures value { IfOk result (λ p. p ≡ after_search (folder_keys run.now.kept) query.now (first_fault_of (folder_keys run.now.kept) (asked_columns query.now) query.now.version run.now.kept.seen (name run.now 2) (name run.now 3) lead.now follow.now)) }
-    ensures named { IfOk result (λ p. IsNamed run.now p) }
+    ensures named { IfOk result (λ p. AsksNamed run.now p) }
     ensures within { IfOk result (λ p. Within p (run.now.step + 1)) }
 {
     match found(alloc, run, query, lead, follow) {
@@ -298,7 +298,7 @@ fn after_update(
     requires range { IsInRange at }
     requires steps { run.now.step ≤ asks_before at }
     ensures value { IfOk result (λ p. p ≡ phase_after run.now (Updating entry at) frame.now) }
-    ensures named { IfOk result (λ p. IsNamed run.now p) }
+    ensures named { IfOk result (λ p. AsksNamed run.now p) }
     ensures within { IfOk result (λ p. Within p (run.now.step + 1)) }
 {
     let ask = single_of(entry.id, at);
@@ -312,10 +312,10 @@ fn after_update(
 /// The phase after a reply. The lead's reply of a pair is held.
 pub fn phase_after(alloc: Global, run: &Run, phase: Phase, frame: &[u8]) -> Result<Phase, NoMemory>
     requires kept { IsKeptState run.now.kept }
-    requires named { IsNamed run.now phase }
+    requires named { AsksNamed run.now phase }
     requires within { Within phase run.now.step }
     ensures value { IfOk result (λ p. p ≡ phase_after run.now phase frame.now) }
-    ensures named { IfOk result (λ p. IsNamed run.now p) }
+    ensures named { IfOk result (λ p. AsksNamed run.now p) }
     ensures within { IfOk result (λ p. Within p (run.now.step + 1)) }
 {
     match phase {

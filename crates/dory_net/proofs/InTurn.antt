@@ -2,13 +2,13 @@
 use Rattle.std.proofs.Common.{◌≡◌, ℕ, ◌+◌, ◌<◌, List, [], ◌∷◌, ◌++◌, length, Option, Some, None, refl, sym, ap, subst, ◌∙◌, arith}
 use Rattle.dory_io.specs.Causes.{one_more}
 use Rattle.dory_domain.specs.Held.{Held}
-use Rattle.dory_net.specs.Serving.{Connection, Telling, IsSessionOf, AreServed, IsServing, EndsAfter, counted}
+use Rattle.dory_net.specs.Serving.{Connection, Telling, IsSessionOf, AreServed, IsServing, EndsAfter, count_after}
 use Rattle.dory_net.specs.declared.serving.ServeEnd.TheVariants.{Sessions, AcceptFault}
 
 -- so many connections were given and served, and these
 pub record IsUnderway {From To : Type 0} (tell : Telling From To) (before now : List Held) (given given_now n : ℕ) (cs : List (Connection From To)) : Type 0 where
   pub each : AreServed tell before cs now
-  pub count : given_now ≡ counted (length cs) given
+  pub count : given_now ≡ count_after (length cs) given
   pub number : length cs ≡ n
 
 -- so many were given and served
@@ -22,7 +22,7 @@ served_more : {From To : Type 0} (tell : Telling From To) (cs : List (Connection
 served_more tell [] c before mid now e s = (now, subst (λ (folders : List Held). IsSessionOf tell folders c now) e s, refl)
 served_more tell (d ∷ ds) c before mid now (next, first, rest) s = (next, first, served_more tell ds c next mid now rest s)
 
-counted_more : {A : Type 0} (xs : List A) (x : A) (count : ℕ) → counted (length (xs ++ x ∷ [])) count ≡ one_more (counted (length xs) count)
+counted_more : {A : Type 0} (xs : List A) (x : A) (count : ℕ) → count_after (length (xs ++ x ∷ [])) count ≡ one_more (count_after (length xs) count)
 counted_more [] x count = refl
 counted_more (y ∷ ys) x count = ap one_more (counted_more ys x count)
 

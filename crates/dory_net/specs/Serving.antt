@@ -36,9 +36,9 @@ AreServed tell before [] now = now ≡ before
 AreServed tell before (c ∷ cs) now = (mid : List Held) × IsSessionOf tell before c mid × AreServed tell mid cs now
 
 -- a count after so many more
-abbrev pub counted : ℕ → ℕ → ℕ
-counted zero count = count
-counted (suc n) count = one_more (counted n count)
+abbrev pub count_after : ℕ → ℕ → ℕ
+count_after zero count = count
+count_after (suc n) count = one_more (count_after n count)
 
 -- serving ends when as many connections were served as were asked for, or when no further one is given
 abbrev pub EndsAfter : Option ℕ → ℕ → ServeEnd → Type 0
@@ -50,7 +50,7 @@ EndsAfter None served AcceptFault = ⊤
 -- these connections were given and served, by a domain that had the folders `before` and has `now`
 pub record IsServing {From To : Type 0} (tell : Telling From To) (before now : List Held) (given given_now : ℕ) (asked : Option ℕ) (end : ServeEnd) (connections : List (Connection From To)) : Type 0 where
   pub each : AreServed tell before connections now
-  pub count : given_now ≡ counted (length connections) given
+  pub count : given_now ≡ count_after (length connections) given
   pub ended : EndsAfter asked (length connections) end
 
 -- a connection was given and served, or none was given and the folders stay

@@ -41,8 +41,8 @@ pub record IsLineOf (slots : Slots) (line : ℕ) (p : Place) (e : Entry) : Type 
   pub there : get_or slots p.slot None ≡ Some e
   pub bit : (selector : List Bool) → get_or (parities_of slots selector) line false ≡ parity selector (row_of e.change)
 
-pub line_of : (slots : Slots) (line : ℕ) (p : Place) → line < length (manifest_of slots) → p ≡ get_or (manifest_of slots) line p → (e : Entry) × IsLineOf slots line p e
-line_of slots line p h is =
+pub line_is : (slots : Slots) (line : ℕ) (p : Place) → line < length (manifest_of slots) → p ≡ get_or (manifest_of slots) line p → (e : Entry) × IsLineOf slots line p e
+line_is slots line p h is =
     let inside : line < length (live_of slots) = omega (arith, length-map (live_of slots) place_of) in
     let l : (l : Live) × IsLine 0 slots line l = line_at slots line inside in
     let slot_is : p.slot ≡ l.0.slot = ap (λ (q : Place). q.slot) (is ∙ l.1.line p) in (

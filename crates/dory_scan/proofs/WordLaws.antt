@@ -6,7 +6,7 @@ use Rattle.std.proofs.lemmas.List.{get_or_past, get_or-map, length-map}
 use Rattle.std.proofs.lemmas.Nat.Bits.{bit_at-zero}
 use Rattle.dory_base.specs.Packed.{word_bit, bits_of}
 use Rattle.dory_base.proofs.Packing.{bits_same}
-use Rattle.dory_scan.specs.Words.{IsWord}
+use Rattle.dory_scan.specs.Words.{IsWordOf}
 
 -- the words of one selector, block by block
 abbrev pub words_at : List (List ℕ) → ℕ → List ℕ
@@ -36,7 +36,7 @@ bool_is false = refl
 
 -- words that each have their bits have all of them
 pub words_are : (bits : List Bool) (ws : List ℕ) (len : ℕ) → length bits ≡ len → length ws ≡ (len + 63) / 64
-    → ((k : ℕ) → k < length ws → IsWord bits k (get_or ws k 0)) → bits_of len ws ≡ bits
+    → ((k : ℕ) → k < length ws → IsWordOf bits k (get_or ws k 0)) → bits_of len ws ≡ bits
 words_are bits ws len e exact each =
     bits_same bits len ws e (λ j h.
     let low : j / 64 < length ws = omega (arith, exact) in
@@ -45,5 +45,5 @@ words_are bits ws len e exact each =
     ∙ ap (λ (x : ℕ). x == 1) (ap (λ (n : ℕ). cond (get_or bits n false) 1 0) (sym at) ∙ sym (each (j / 64) low (j % 64) (omega arith))))
 
 -- past the last bit a word has zeros
-pub word_past : (bits : List Bool) (n x i : ℕ) → IsWord bits n x → i < 64 → length bits ≤ 64 * n + i → bit_at x i ≡ 0
+pub word_past : (bits : List Bool) (n x i : ℕ) → IsWordOf bits n x → i < 64 → length bits ≤ 64 * n + i → bit_at x i ≡ 0
 word_past bits n x i is h far = is i h ∙ ap (λ (b : Bool). cond b 1 0) (get_or_past bits (64 * n + i) false far)

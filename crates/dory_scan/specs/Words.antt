@@ -9,13 +9,13 @@ abbrev pub parities_of : Slots → List Bool → List Bool
 parities_of slots selector = map (λ l. parity selector (row_of l.entry.change)) (live_of slots)
 
 -- x is word n of these bits, with zero bits after the last
-abbrev pub IsWord : List Bool → ℕ → ℕ → Type 0
-IsWord bits n x = (i : ℕ) → i < 64 → bit_at x i ≡ cond (slice_index_or bits (64 * n + i) false) 1 0
+abbrev pub IsWordOf : List Bool → ℕ → ℕ → Type 0
+IsWordOf bits n x = (i : ℕ) → i < 64 → bit_at x i ≡ cond (slice_index_or bits (64 * n + i) false) 1 0
 
 -- for each selector, word n of its parities
 pub record IsBlock (slots : Slots) (selectors : List (List Bool)) (n : ℕ) (words : List ℕ) : Type 0 where
   pub many : length words ≡ length selectors
-  pub each : (s : ℕ) → s < length words → IsWord (parities_of slots (slice_index_or selectors s [])) n (slice_index words s)
+  pub each : (s : ℕ) → s < length words → IsWordOf (parities_of slots (slice_index_or selectors s [])) n (slice_index words s)
 
 -- all words of all selectors, block by block
 abbrev pub AreBlocks : Slots → List (List Bool) → List (List ℕ) → Type 0

@@ -18,7 +18,7 @@ use Rattle.dory_hmac.specs.declared.folder_keys.FolderKeys.{FolderKeys}
 use Rattle.dory_hmac.proofs.Tag.{length-hmac_of_block, hmac_of_block-byte}
 use Rattle.dory_seal.specs.Epoch.{epoch_of, tag_key_of}
 use Rattle.dory_seal.specs.Message.{cell_message}
-use Rattle.dory_seal.specs.Seal.{cell_tag_of, mask_bit_of, plain_of, HasTag, IsPost, IsSealed, IsSealedChange, IsWhole}
+use Rattle.dory_seal.specs.Seal.{cell_tag_of, mask_bit_of, plain_of, HasTag, IsPostOfShape, IsSealed, IsSealedChange, IsWhole}
 use Rattle.dory_seal.proofs.Masks.{length-masked}
 
 -- a plain row has as many bits as there are cells
@@ -39,13 +39,13 @@ whole_change keys doc id Remove sealed = sealed
 pub sealed_is_whole : (keys : FolderKeys) (e : Entry) → IsSealed keys e → IsWhole e.change
 sealed_is_whole keys e sealed = whole_change keys e.doc e.id e.change sealed
 
-whole_fits : (shape : Dims) (change : Change) → IsWhole change → IsPost shape change → IsChangeOf shape change
+whole_fits : (shape : Dims) (change : Change) → IsWhole change → IsPostOfShape shape change → IsChangeOf shape change
 whole_fits shape change whole post =
     let w = rw post.2 at whole in
     rw post.2 (record { shape_is = refl; row = w.cells; tags_are = w.tagged })
 
 -- a sealed post of a shape may stand in a folder of this shape
-pub sealed_fits : (keys : FolderKeys) (shape : Dims) (e : Entry) → IsSealed keys e → IsPost shape e.change → IsChangeOf shape e.change
+pub sealed_fits : (keys : FolderKeys) (shape : Dims) (e : Entry) → IsSealed keys e → IsPostOfShape shape e.change → IsChangeOf shape e.change
 sealed_fits keys shape e sealed post = whole_fits shape e.change (sealed_is_whole keys e sealed) post
 
 tag_of_change : (keys : FolderKeys) (doc : DocId) (id : UpdateId) (change : Change) (j : ℕ) → IsSealedChange keys doc id change → j < length (row_of change)

@@ -9,17 +9,17 @@ abbrev pub epoch_of : UpdateId → ℕ
 epoch_of id = id.serial / 2 ^ 56
 
 -- a key in an epoch: itself in epoch 0, and in a later one its HMAC of a label and the epoch in one byte
-unfoldable pub key_in : ℕ → List ℕ → List ℕ
-key_in zero key = key
-key_in (suc before) key = hmac key (codes "dory epoch" ++ suc before ∷ [])
+unfoldable pub epoch_key : ℕ → List ℕ → List ℕ
+epoch_key zero key = key
+epoch_key (suc before) key = hmac key (codes "dory epoch" ++ suc before ∷ [])
 
 -- the key that the mask bits of an epoch are made with
 abbrev pub mask_key_of : FolderKeys → ℕ → List ℕ
-mask_key_of keys epoch = key_in epoch keys.mask
+mask_key_of keys epoch = epoch_key epoch keys.mask
 
 -- the key that the cell tags of an epoch are made with
 abbrev pub tag_key_of : FolderKeys → ℕ → List ℕ
-tag_key_of keys epoch = key_in epoch keys.tag
+tag_key_of keys epoch = epoch_key epoch keys.tag
 
 -- a folder's keys, and the epoch that they are used in
 pub record KeysIn : Type 0 where

@@ -69,14 +69,14 @@ abbrev pub IsSealed : FolderKeys → Entry → Type 0
 IsSealed keys e = IsSealedChange keys e.doc e.id e.change
 
 -- the change is a post of this shape
-abbrev pub IsPost : Dims → Change → Type 0
-IsPost shape change = (row : List Bool) × (tags : List ℕ) × (change ≡ Post shape row tags)
+abbrev pub IsPostOfShape : Dims → Change → Type 0
+IsPostOfShape shape change = (row : List Bool) × (tags : List ℕ) × (change ≡ Post shape row tags)
 
 -- a sealed entry with this id and this document, which posts a row of this shape whose plain row is this
 pub record IsSealingOf (keys : FolderKeys) (shape : Dims) (id : UpdateId) (doc : DocId) (row : List Bool) (e : Entry) : Type 0 where
   pub id_is : e.id ≡ id
   pub doc_is : e.doc ≡ doc
-  pub post : IsPost shape e.change
+  pub post : IsPostOfShape shape e.change
   pub sealed : IsSealed keys e
   pub plain : plain_of keys e ≡ row
 

@@ -1,7 +1,7 @@
 //! The epoch of an update, and the keys of an epoch.
 ghost use Rattle.std.specs.Prelude.{◌≡◌, ◌/◌, ◌^◌, ◌++◌, ◌∷◌, [], codes};
 ghost use Rattle.dory_hmac.specs.Hmac.{hmac};
-ghost use Rattle.dory_seal.specs.Epoch.{epoch_of, key_in};
+ghost use Rattle.dory_seal.specs.Epoch.{epoch_of, epoch_key};
 
 use dory_base::UpdateId;
 use dory_hmac::Mac;
@@ -20,9 +20,9 @@ fn highest_byte(serial: u64) -> u8
 }
 
 /// A key of the folder in an epoch.
-#[tactic(auto, unfolding(crate::specs::Epoch::key_in))]
+#[tactic(auto, unfolding(crate::specs::Epoch::epoch_key))]
 pub(crate) fn key_in(epoch: u8, key: &[u8; 32]) -> [u8; 32]
-    ensures { result ≡ key_in epoch key.now }
+    ensures { result ≡ epoch_key epoch key.now }
 {
     if epoch == 0 {
         *key

@@ -7,9 +7,9 @@ use Rattle.dory_net.specs.declared.serving.ServeEnd.{ServeEnd}
 use Rattle.dory_net.specs.declared.serving.ServeEnd.TheVariants as port
 use Rattle.dory_server.specs.declared.line.ServerLine.{ServerLine}
 use Rattle.dory_server.specs.declared.line.ServerWords.{ServerWords}
-use Rattle.dory_server.specs.Served.{Counting, ServedBy, begun}
+use Rattle.dory_server.specs.Served.{Counting, ServedBy, begun_folders}
 
-pub served_by : {Door From To : Type 0} (counting : Counting Door From To) (read : Result ServerLine ServerWords) (line : ServerLine) (folders now : List Held) (asked : Option ℕ) (end : ServeEnd) (before after : Door) → read ≡ Ok line → folders ≡ begun line → (cs : List (Connection From To)) × IsServing counting.tell folders now (counting.given before) (counting.given after) asked end cs → HasCause (counting.faults before) (counting.faults after) (end ≡ port.AcceptFault) → ServedBy counting read asked end
+pub served_by : {Door From To : Type 0} (counting : Counting Door From To) (read : Result ServerLine ServerWords) (line : ServerLine) (folders now : List Held) (asked : Option ℕ) (end : ServeEnd) (before after : Door) → read ≡ Ok line → folders ≡ begun_folders line → (cs : List (Connection From To)) × IsServing counting.tell folders now (counting.given before) (counting.given after) asked end cs → HasCause (counting.faults before) (counting.faults after) (end ≡ port.AcceptFault) → ServedBy counting read asked end
 served_by counting read line folders now asked end before after is at (cs, served) cause = (
   line,
   is,

@@ -6,21 +6,21 @@ use Rattle.dory_server.specs.declared.end.ServerEnd.{ServerEnd}
 use Rattle.dory_server.specs.declared.end.ServerEnd.TheVariants.{Usage, BadConfig, BindFault, OutputFault, Sessions, AcceptFault, NoMemory}
 
 -- the exit status
-abbrev pub status_of : ServerEnd → ℕ
-status_of (Usage at) = 2
-status_of (BadConfig fault) = 3
-status_of BindFault = 4
-status_of OutputFault = 9
-status_of Sessions = 0
-status_of AcceptFault = 4
-status_of NoMemory = 12
+abbrev pub server_status_of : ServerEnd → ℕ
+server_status_of (Usage at) = 2
+server_status_of (BadConfig fault) = 3
+server_status_of BindFault = 4
+server_status_of OutputFault = 9
+server_status_of Sessions = 0
+server_status_of AcceptFault = 4
+server_status_of NoMemory = 12
 
 -- an end: its name in lower case, and what it carries, after a space
-abbrev pub end_text : ServerEnd → List ℕ
-end_text (Usage at) = codes "usage " ++ decimal at
-end_text (BadConfig fault) = codes "badconfig " ++ config_fault_text fault
-end_text BindFault = codes "bindfault"
-end_text OutputFault = codes "outputfault"
-end_text Sessions = codes "sessions"
-end_text AcceptFault = codes "acceptfault"
-end_text NoMemory = codes "nomemory"
+abbrev pub server_end_text : ServerEnd → List ℕ
+server_end_text (Usage at) = codes "usage " ++ decimal at
+server_end_text (BadConfig fault) = codes "badconfig " ++ config_fault_text fault
+server_end_text BindFault = codes "bindfault"
+server_end_text OutputFault = codes "outputfault"
+server_end_text Sessions = codes "sessions"
+server_end_text AcceptFault = codes "acceptfault"
+server_end_text NoMemory = codes "nomemory"

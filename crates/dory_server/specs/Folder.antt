@@ -10,8 +10,8 @@ retained_of None = Some 64
 retained_of (Some text) = number_of 0 4294967295 text
 
 -- the folder's number, its depth and its probes, how many versions are retained, and nothing after them
-abbrev pub folder_in : List (List ℕ) → Option FolderConfig
-folder_in texts = if is_some (slice_get texts 4) then None else (do
+abbrev pub folder_of_parts : List (List ℕ) → Option FolderConfig
+folder_of_parts texts = if is_some (slice_get texts 4) then None else (do
   folder ← number_at 0 0 4294967295 texts
   depth ← number_at 1 8 11 texts
   probes ← number_at 2 1 8 texts
@@ -20,4 +20,4 @@ folder_in texts = if is_some (slice_get texts 4) then None else (do
 
 -- the folder that a word names, as `1:8:2` or `1:8:2:64`
 abbrev pub folder_of : List ℕ → Option FolderConfig
-folder_of word = folder_in (between_colons word)
+folder_of word = folder_of_parts (between_colons word)

@@ -12,8 +12,8 @@ use Rattle.dory_server.specs.declared.line.ServerWords.{ServerWords}
 use Rattle.dory_server.specs.declared.line.ServerWords.TheVariants.{At, NoMemory}
 
 -- a role as it is named
-abbrev pub role_of : List ℕ → Option Side
-role_of word =
+abbrev pub named_role : List ℕ → Option Side
+named_role word =
     if bytes_eq word (codes "lead") then Some Lead
     else if bytes_eq word (codes "follow") then Some Follow
     else None
@@ -49,9 +49,9 @@ some_folders at [] = Err (At at)
 some_folders at (word ∷ words) = folders_from at (word ∷ words)
 
 -- a role, an address, a number of seats, and one folder or more
-unfoldable pub line_of : List (List ℕ) → Result ServerLine ServerWords
-line_of words = do
-  role ← word_at 0 role_of words
+unfoldable pub server_line_of : List (List ℕ) → Result ServerLine ServerWords
+server_line_of words = do
+  role ← word_at 0 named_role words
   address ← word_at 1 address_of words
   seats ← word_at 2 seats_of words
   folders ← some_folders 3 (drop 3 words)

@@ -61,11 +61,11 @@ SaysReady address before now (Err AcceptFault) = ⊥
 SaysReady address before now (Err NoMemory) = Appends before now []
 
 -- an end that comes before anything is bound
-abbrev pub IsRefusal : ServerEnd → Type 0
-IsRefusal (Usage at) = ⊤
-IsRefusal (BadConfig fault) = ⊤
-IsRefusal BindFault = ⊥
-IsRefusal OutputFault = ⊥
-IsRefusal Sessions = ⊥
-IsRefusal AcceptFault = ⊥
-IsRefusal NoMemory = ⊤
+abbrev pub EndsUnbound : ServerEnd → Type 0
+EndsUnbound (Usage at) = ⊤
+EndsUnbound (BadConfig fault) = ⊤
+EndsUnbound BindFault = ⊥
+EndsUnbound OutputFault = ⊥
+EndsUnbound Sessions = ⊥
+EndsUnbound AcceptFault = ⊥
+EndsUnbound NoMemory = ⊤

@@ -28,12 +28,12 @@ ServedSome {Door} {From} {To} counting folders asked end =
     × IsServedAt counting folders now asked end before after connections
 
 -- the folders of a line, each with no update
-abbrev pub begun : ServerLine → List Held
-begun line = map (opened line.config.role) line.config.folders
+abbrev pub begun_folders : ServerLine → List Held
+begun_folders line = map (opened line.config.role) line.config.folders
 
 -- connections were served by the domain that the words name, from its beginning
 abbrev pub ServedBy : {Door From To : Type 0} → Counting Door From To → Result ServerLine ServerWords → Option ℕ → ServeEnd → Type 0
-ServedBy counting read asked end = (line : ServerLine) × (read ≡ Ok line) × ServedSome counting (begun line) asked end
+ServedBy counting read asked end = (line : ServerLine) × (read ≡ Ok line) × ServedSome counting (begun_folders line) asked end
 
 -- what was served by the end
 abbrev pub Served : {Door From To : Type 0} → Counting Door From To → Result ServerLine ServerWords → Option ℕ → ServerEnd → Type 0

@@ -1,6 +1,6 @@
 //! How a server ends.
 ghost use Rattle.std.specs.Prelude.{◌≡◌, Some};
-ghost use Rattle.dory_server.specs.End.{end_text, status_of};
+ghost use Rattle.dory_server.specs.End.{server_end_text, server_status_of};
 
 use dory_domain::ConfigFault;
 use std::fmt;
@@ -23,7 +23,7 @@ pub enum ServerEnd {
 impl ServerEnd {
     /// The program's exit status.
     pub fn status(&self) -> u8
-        ensures { result ≡ status_of self.now }
+        ensures { result ≡ server_status_of self.now }
     {
         match self {
             ServerEnd::Usage { .. } => 2,
@@ -37,7 +37,7 @@ impl ServerEnd {
 }
 
 impl fmt::Display for ServerEnd {
-    ghost output = { λ end. Some (end_text end) };
+    ghost output = { λ end. Some (server_end_text end) };
 
     fn fmt<W: fmt::Write>(&self, f: &mut fmt::Formatter<W>) -> fmt::Result {
         match self {

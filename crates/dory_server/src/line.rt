@@ -1,7 +1,7 @@
 //! The words of a server's command line are read: the role, the address, the seats, and the folders.
 ghost use Rattle.std.specs.Prelude.{◌≡◌, ◌≤◌, IfOk, IfSome, drop, map, string_bytes, slice_get, option_map, Ok, Some};
 ghost use Rattle.dory_server.specs.Folder.{folder_of, retained_of};
-ghost use Rattle.dory_server.specs.Line.{Gives, line_of, role_of, seats_of, some_folders, word_at};
+ghost use Rattle.dory_server.specs.Line.{Gives, server_line_of, named_role, seats_of, some_folders, word_at};
 ghost use Rattle.dory_io.specs.Address.{address_of, between_colons as parted, number_at};
 
 use dory_base::{FolderId, Shape, Side};
@@ -36,7 +36,7 @@ fn word(words: &[String], at: usize) -> Option<&str>
 
 /// The role that a word names.
 fn named(word: &str) -> Option<Side>
-    ensures { result ≡ role_of word.now }
+    ensures { result ≡ named_role word.now }
 {
     if word == "lead" {
         Some(Side::Lead)
@@ -49,7 +49,7 @@ fn named(word: &str) -> Option<Side>
 
 /// The role, which stands first.
 fn role(words: &[String]) -> Result<Side, ServerWords>
-    ensures { result ≡ word_at 0 role_of (map string_bytes words.now) }
+    ensures { result ≡ word_at 0 named_role (map string_bytes words.now) }
 {
     match word(words, 0) {
         Some(word) => named(word).ok_or(ServerWords::At { at: 0 }),
@@ -157,9 +157,9 @@ fn behind_seats(words: &[String]) -> &[String]
 }
 
 /// The line that the words say, or the first word that is absent or not of its form.
-#[tactic(auto, unfolding(crate::specs::Line::line_of))]
+#[tactic(auto, unfolding(crate::specs::Line::server_line_of))]
 pub fn read_server(alloc: Global, words: &[String]) -> Result<ServerLine, ServerWords>
-    ensures { Gives result (line_of (map string_bytes words.now)) }
+    ensures { Gives result (server_line_of (map string_bytes words.now)) }
 {
     let role = role(words)?;
     let address = address(words)?;

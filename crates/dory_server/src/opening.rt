@@ -4,9 +4,9 @@ ghost use Rattle.dory_io.specs.Bytes.{Tells};
 ghost use Rattle.dory_io.specs.Causes.{HasCause};
 ghost use Rattle.dory_io.specs.Given.{IsBoundFor};
 ghost use Rattle.dory_domain.specs.Setup.{setup_fault};
-ghost use Rattle.dory_server.specs.Line.{line_of};
-ghost use Rattle.dory_server.specs.Opening.{IsRefusal, OpensBy, SaysReady, Wrote, fault_of};
-ghost use Rattle.dory_server.specs.Served.{Served, begun};
+ghost use Rattle.dory_server.specs.Line.{server_line_of};
+ghost use Rattle.dory_server.specs.Opening.{EndsUnbound, OpensBy, SaysReady, Wrote, fault_of};
+ghost use Rattle.dory_server.specs.Served.{Served, begun_folders};
 
 use crate::end::ServerEnd;
 use crate::line::{ServerLine, ServerWords, read_server};
@@ -44,7 +44,7 @@ fn say_ready<O: Sink>(alloc: Global, out: &mut O, address: Address) -> Result<()
 /// The domain that a line without a fault names, with no update.
 fn begin(alloc: Global, line: &ServerLine, kernel: RowKernel) -> Result<DomainCore, ServerEnd>
     requires { setup_fault line.now.config.folders line.now.config.seats ≡ None }
-    ensures begun { IfOk result (λ core. core.folders ≡ begun line.now) }
+    ensures begun_folders { IfOk result (λ core. core.folders ≡ begun_folders line.now) }
     ensures memory { IfErr result (λ end. end ≡ ServerEnd.NoMemory) }
 {
     match DomainCore::new(alloc, line.config.role, line.config.folders.items(), kernel) {
@@ -56,10 +56,10 @@ fn begin(alloc: Global, line: &ServerLine, kernel: RowKernel) -> Result<DomainCo
 
 /// The line that the words say, or the end that they or the configuration have.
 fn read_line(alloc: Global, words: &[String]) -> Result<ServerLine, ServerEnd>
-    ensures line { IfOk result (λ line. line_of (map string_bytes words.now) ≡ Ok line) }
+    ensures line { IfOk result (λ line. server_line_of (map string_bytes words.now) ≡ Ok line) }
     ensures right { IfOk result (λ line. setup_fault line.config.folders line.config.seats ≡ None) }
-    ensures fault { IfErr result (OpensBy (fault_of (line_of (map string_bytes words.now)))) }
-    ensures only { IfErr result IsRefusal }
+    ensures fault { IfErr result (OpensBy (fault_of (server_line_of (map string_bytes words.now)))) }
+    ensures only { IfErr result EndsUnbound }
 {
     let line = match read_server(alloc, words) {
         Ok(line) => line,
@@ -84,9 +84,9 @@ pub fn serve_in_turn<R: Wait, B: Binder, O: Sink>(
     sessions: Option<u32>,
 ) -> ServerEnd
     // Faulty words come first and a faulty configuration second, exactly.
-    ensures opens { OpensBy (fault_of (line_of (map string_bytes words.now))) result }
-    ensures wrote { Wrote (line_of (map string_bytes words.now)) (B.bound binder.new) (O.written out.old) (O.written out.new) result }
-    ensures served { Served (record { tell = record { left = λ s. B.Door.From.left s; given = λ s. B.Door.From.given s; written = λ o. B.Door.To.written o }; given = λ p. B.Door.given p; faults = λ p. B.Door.faults p }) (line_of (map string_bytes words.now)) sessions result }
+    ensures opens { OpensBy (fault_of (server_line_of (map string_bytes words.now))) result }
+    ensures wrote { Wrote (server_line_of (map string_bytes words.now)) (B.bound binder.new) (O.written out.old) (O.written out.new) result }
+    ensures served { Served (record { tell = record { left = λ s. B.Door.From.left s; given = λ s. B.Door.From.given s; written = λ o. B.Door.To.written o }; given = λ p. B.Door.given p; faults = λ p. B.Door.faults p }) (server_line_of (map string_bytes words.now)) sessions result }
     ensures bind_fault { HasCause (B.faults binder.old) (B.faults binder.new) (result ≡ ServerEnd.BindFault) }
     ensures output_fault { HasCause (O.faults out.old) (O.faults out.new) (result ≡ ServerEnd.OutputFault) }
 {

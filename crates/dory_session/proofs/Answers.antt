@@ -12,7 +12,7 @@ use Rattle.dory_domain.specs.Held.{Held}
 use Rattle.dory_session.specs.declared.end.How.{How}
 use Rattle.dory_session.specs.declared.end.How.TheVariants.{OutputFault}
 use Rattle.dory_session.specs.Answered.{IsAnswered, AreAnswered}
-use Rattle.dory_session.specs.Ends.{Breaks, IsLess, end_of}
+use Rattle.dory_session.specs.Ends.{Breaks, IsLess, end_of_fault}
 
 pub one_more_answered : (before mid now : List Held) (messages frames : List (List ℕ)) (message frame : List ℕ) → AreAnswered before messages frames mid → IsAnswered mid message frame now → AreAnswered before (messages ++ message ∷ []) (frames ++ frame ∷ []) now
 one_more_answered before mid now [] [] message frame h step = (now, subst (λ (held : List Held). IsAnswered held message frame now) h step, refl)
@@ -33,13 +33,13 @@ messages_more [] message all is = (is, tt)
 messages_more (m ∷ ms) message all is = (all.0, messages_more ms message all.1 is)
 
 -- what a message that is no request makes of a session
-pub broken_by : (fault : WireFault) (before : List Held) (message : List ℕ) → Fails fault (request_of message) → Breaks (end_of fault) before message [] before
+pub broken_by : (fault : WireFault) (before : List Held) (message : List ℕ) → Fails fault (request_of message) → Breaks (end_of_fault fault) before message [] before
 broken_by (wire.Kind b) before message f = (f, (refl, refl))
 broken_by (wire.Body at) before message f = (f, (refl, refl))
 broken_by (wire.Trailing at) before message f = (f, (refl, refl))
 broken_by wire.NoMemory before message f = (refl, inl refl)
 
-pub no_output_fault : (fault : WireFault) → ◌≡◌ {A = How} (end_of fault) OutputFault → ⊥
+pub no_output_fault : (fault : WireFault) → ◌≡◌ {A = How} (end_of_fault fault) OutputFault → ⊥
 no_output_fault (wire.Kind b) e = absurd cc
 no_output_fault (wire.Body at) e = absurd cc
 no_output_fault (wire.Trailing at) e = absurd cc

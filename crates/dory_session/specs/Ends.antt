@@ -32,11 +32,11 @@ abbrev pub IsLess : List ℕ → List ℕ → Type 0
 IsLess part bytes = (n : ℕ) × (n < length bytes) × (part ≡ take n bytes)
 
 -- the end that a fault of a message is
-abbrev pub end_of : WireFault → How
-end_of (wire.Kind b) = Kind b
-end_of (wire.Body at) = Body at
-end_of (wire.Trailing at) = Trailing at
-end_of wire.NoMemory = NoMemory
+abbrev pub end_of_fault : WireFault → How
+end_of_fault (wire.Kind b) = Kind b
+end_of_fault (wire.Body at) = Body at
+end_of_fault (wire.Trailing at) = Trailing at
+end_of_fault wire.NoMemory = NoMemory
 
 -- Why a message has no whole reply, where `part` was written of it. A domain may have stepped, and memory then run out.
 abbrev pub Breaks : How → List Held → List ℕ → List ℕ → List Held → Type 0
@@ -71,6 +71,6 @@ IsEnd Limit answered rest before left mid part now = (answered ≡ 4294967295) �
 IsEnd NoMemory answered rest before left mid part now = Nothing mid part now ⊎ BreaksAt NoMemory mid rest part now
 
 -- what was written for a message is its reply's frame, or it breaks
-abbrev pub Replies : List Held → List ℕ → List ℕ → List Held → Result (Unit {0}) How → Type 0
-Replies before message part now (Ok u) = IsAnswered before message part now
-Replies before message part now (Err how) = Breaks how before message part now
+abbrev pub WritesReply : List Held → List ℕ → List ℕ → List Held → Result (Unit {0}) How → Type 0
+WritesReply before message part now (Ok u) = IsAnswered before message part now
+WritesReply before message part now (Err how) = Breaks how before message part now

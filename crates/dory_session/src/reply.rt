@@ -2,7 +2,7 @@
 ghost use Rattle.std.specs.Prelude.{◌≡◌, IsErrOf, List, ℕ};
 ghost use Rattle.std.specs.Io.KnownBytes.{Appends};
 ghost use Rattle.dory_io.specs.Causes.{HasCause};
-ghost use Rattle.dory_session.specs.Ends.{Replies, end_of};
+ghost use Rattle.dory_session.specs.Ends.{WritesReply, end_of_fault};
 
 use crate::domain::Domain;
 use crate::end::How;
@@ -12,7 +12,7 @@ use std::alloc::Global;
 
 /// The end that a fault of a message is.
 fn fault_end(fault: WireFault) -> How
-    ensures { result ≡ end_of fault }
+    ensures { result ≡ end_of_fault fault }
 {
     match fault {
         WireFault::Kind { b } => How::Kind { b },
@@ -29,7 +29,7 @@ pub fn reply_to<D: Domain, O: Sink>(
     message: &[u8],
     out: &mut O,
 ) -> Result<(), How>
-    ensures replies { (part : List ℕ) × Appends (O.written out.old) (O.written out.new) part × Replies (D.folders core.old) message.now part (D.folders core.new) result }
+    ensures replies { (part : List ℕ) × Appends (O.written out.old) (O.written out.new) part × WritesReply (D.folders core.old) message.now part (D.folders core.new) result }
     ensures cause { HasCause (O.faults out.old) (O.faults out.new) (IsErrOf result How.OutputFault) }
 {
     let request = match decode_request(alloc, message) {

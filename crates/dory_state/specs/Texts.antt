@@ -5,8 +5,8 @@ use Rattle.dory_state.specs.declared.fault.StateFault.{StateFault}
 use Rattle.dory_state.specs.declared.fault.StateFault.TheVariants as fault
 
 -- the fault's name in lower case, and its number after a space
-abbrev pub fault_text : StateFault → List ℕ
-fault_text fault.Header = codes "header"
-fault_text (fault.Length got) = codes "length " ++ decimal got
-fault_text (fault.Field at) = codes "field " ++ decimal at
-fault_text fault.NoMemory = codes "nomemory"
+abbrev pub state_fault_text : StateFault → List ℕ
+state_fault_text fault.Header = codes "header"
+state_fault_text (fault.Length got) = codes "length " ++ decimal got
+state_fault_text (fault.Field at) = codes "field " ++ decimal at
+state_fault_text fault.NoMemory = codes "nomemory"

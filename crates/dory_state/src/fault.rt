@@ -1,6 +1,6 @@
 //! Why bytes are no kept state.
 ghost use Rattle.std.specs.Prelude.{◌≡◌, Some};
-ghost use Rattle.dory_state.specs.Texts.{fault_text};
+ghost use Rattle.dory_state.specs.Texts.{state_fault_text};
 ghost use Rattle.dory_state.specs.declared.fault.StateFault.TheVariants.{NoMemory};
 
 use std::alloc::{AllocError, AllocFailed};
@@ -43,7 +43,7 @@ impl From<dory_base::NoMemory> for StateFault {
 }
 
 impl fmt::Display for StateFault {
-    ghost output = { λ fault. Some (fault_text fault) };
+    ghost output = { λ fault. Some (state_fault_text fault) };
 
     fn fmt<W: fmt::Write>(&self, f: &mut fmt::Formatter<W>) -> fmt::Result {
         match self {

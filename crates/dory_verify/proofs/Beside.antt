@@ -28,10 +28,10 @@ use Rattle.dory_verify.specs.declared.fault.VerifyError.{VerifyError}
 use Rattle.dory_verify.specs.declared.fault.CheckFault.{CheckFault}
 use Rattle.dory_verify.specs.declared.fault.CheckFault.TheVariants as fault
 use Rattle.dory_verify.specs.Tags.{xor_bits, line_tag, tag_sum}
-use Rattle.dory_verify.specs.Listing.{crossed, is_listed, listed_from, Lists}
+use Rattle.dory_verify.specs.Listing.{crossed, is_line_listed, listed_from, Lists}
 use Rattle.dory_verify.specs.Answer.{IsRising, numbers, holds_all, matching, IsAnswer}
 use Rattle.dory_verify.specs.Forgery.{Probe, IsForgeryOf, IsForgery, probes_of}
-use Rattle.dory_verify.specs.SideBySide.{cells_at, Both, other_of, IsTagged, IsAsked, IsChecked, IsShown}
+use Rattle.dory_verify.specs.SideBySide.{cells_at, Both, other_of, IsTagged, HasPointPair, IsChecked, IsShown}
 use Rattle.dory_query.specs.Pairs.{ArePairs}
 use Rattle.dory_verify.specs.Honest.{IsFoundIn, found_by, IsSearch, IsRightOrForged}
 use Rattle.dory_verify.specs.Checks.{adds_up, all_add_up, first_fault_of, Verifies}
@@ -97,7 +97,7 @@ boths (c ∷ columns) [] other = []
 boths (c ∷ columns) (m ∷ mine) [] = []
 boths (c ∷ columns) (m ∷ mine) (o ∷ other) = record { column = c; mine = m; other = o } ∷ boths columns mine other
 
-asked : (m : ℕ) (columns : List ℕ) (mine other : List (List Bool)) → ArePairs m columns mine other → AllByRecursion (IsAsked m) (boths columns mine other)
+asked : (m : ℕ) (columns : List ℕ) (mine other : List (List Bool)) → ArePairs m columns mine other → AllByRecursion (HasPointPair m) (boths columns mine other)
 asked m [] [] [] h = tt
 asked m [] [] (o ∷ other) h = absurd h
 asked m [] (x ∷ mine) other h = absurd h
@@ -159,10 +159,10 @@ plain_at : (keys : FolderKeys) (e : Entry) (c : ℕ) → c < length (row_of e.ch
 plain_at keys e c h = get_or-map-range_with_len (λ j. xor (get_or (row_of e.change) j false) (mask_bit_of keys e.doc e.id j)) 0 (length (row_of e.change)) c c false h (omega arith)
 
 picks : (keys : FolderKeys) (front : List Live) (l : Live) (ls : List Live) (columns : List ℕ) → AllByRecursion (λ c. c < length (row_of l.entry.change)) columns
-    → is_listed keys columns (map (λ c. cells_at c (front ++ l ∷ ls)) columns) (length front) (place_of l) ≡ holds_all keys columns l
+    → is_line_listed keys columns (map (λ c. cells_at c (front ++ l ∷ ls)) columns) (length front) (place_of l) ≡ holds_all keys columns l
 picks keys front l ls [] all = refl
 picks keys front l ls (c ∷ columns) all =
-    ap (λ (b : Bool). xor b (mask_bit_of keys l.entry.doc l.entry.id c) && is_listed keys columns (map (λ d. cells_at d (front ++ l ∷ ls)) columns) (length front) (place_of l))
+    ap (λ (b : Bool). xor b (mask_bit_of keys l.entry.doc l.entry.id c) && is_line_listed keys columns (map (λ d. cells_at d (front ++ l ∷ ls)) columns) (length front) (place_of l))
     (pick (λ (x : Live). get_or (row_of x.entry.change) c false) front l ls)
     ∙ (λ i. sym (plain_at keys l.entry c all.0) i && picks keys front l ls columns all.1 i)
 

@@ -23,7 +23,7 @@ use Rattle.dory_verify.specs.declared.fault.CheckFault.{CheckFault}
 use Rattle.dory_verify.specs.declared.fault.CheckFault.TheVariants as fault
 use Rattle.dory_verify.specs.Honest.{IsFoundIn}
 use Rattle.dory_verify.specs.Tags.{xor_bits, tag_sum}
-use Rattle.dory_verify.specs.Checks.{◌>>=◌, is_allowed, formed, framed, form, echo, found_of, not_stale, same_version, same_id, same_place, same_manifest, counted, adds_up, all_add_up, both_found, of_one_version, first_fault_of}
+use Rattle.dory_verify.specs.Checks.{◌>>=◌, is_allowed, formed, framed, form, echo, found_given, not_stale, same_version, same_id, same_place, same_manifest, counted, adds_up, all_add_up, both_found, of_one_version, first_fault_of}
 
 bind_ok : {A B : Type 0} (r : Result A CheckFault) (f : A → Result B CheckFault) (y : B) → (r >>= f) ≡ Ok y → (x : A) × (r ≡ Ok x) × (f x ≡ Ok y)
 bind_ok (Ok x) f y e = (x, refl, e)
@@ -54,7 +54,7 @@ message_ok : (side : Side) (latest : Bool) (m : Option (List ℕ)) (r : Reply) �
 message_ok side latest None r is = absurd (cc)
 message_ok side latest (Some message) r is = (message, refl, read_ok side latest (reply_of message) r is)
 
-found_ok : (side : Side) (w : What) (f : Found) → found_of side w ≡ Ok f → w ≡ Finds f
+found_ok : (side : Side) (w : What) (f : Found) → found_given side w ≡ Ok f → w ≡ Finds f
 found_ok side (At n) f is = absurd (cc)
 found_ok side (Finds g) f is = cc
 found_ok side (Id number id) f is = absurd (cc)
@@ -68,7 +68,7 @@ bytes_dropped (suc n) [] h = h
 bytes_dropped (suc n) (b ∷ bytes) h = bytes_dropped n bytes (λ i. h (suc i))
 
 -- a frame that found f, and f's ranges
-in_frame : (side : Side) (frame : List ℕ) (r : Reply) (f : Found) → IsBytes frame → form side false frame ≡ Ok r → found_of side r.what ≡ Ok f → IsFoundIn frame f × IsFound f
+in_frame : (side : Side) (frame : List ℕ) (r : Reply) (f : Found) → IsBytes frame → form side false frame ≡ Ok r → found_given side r.what ≡ Ok f → IsFoundIn frame f × IsFound f
 in_frame side frame r f bytes formed_as found_as =
     let m = message_ok side false (message_in frame) r formed_as in
     let framing = frame_is frame m.0 bytes m.1 in
@@ -91,11 +91,11 @@ both_ok first second lead follow both lead_bytes follow_bytes is =
     let g = bind_ok (form Follow false follow) _ both l.2 in
     let e = bind_ok (echo Lead first l.0) _ both g.2 in
     let h = bind_ok (echo Follow second g.0) _ both e.2 in
-    let found_l = bind_ok (found_of Lead l.0.what) _ both h.2 in
-    let found_f = bind_ok (found_of Follow g.0.what) _ both found_l.2 in
+    let found_l = bind_ok (found_given Lead l.0.what) _ both h.2 in
+    let found_f = bind_ok (found_given Follow g.0.what) _ both found_l.2 in
     made l.0 g.0 found_l.0 found_f.0 l.1 g.1 found_l.1 found_f.1 found_f.2
   where
-    made : (r s : Reply) (x y : Found) → form Lead false lead ≡ Ok r → form Follow false follow ≡ Ok s → found_of Lead r.what ≡ Ok x → found_of Follow s.what ≡ Ok y
+    made : (r s : Reply) (x y : Found) → form Lead false lead ≡ Ok r → form Follow false follow ≡ Ok s → found_given Lead r.what ≡ Ok x → found_given Follow s.what ≡ Ok y
         → ok_both (x, y) ≡ ok_both both → AreFound lead follow both.0 both.1
     made r s x y a b i j given =
         let same : (x, y) ≡ both = cc in

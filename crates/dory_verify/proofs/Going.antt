@@ -14,7 +14,7 @@ use Rattle.dory_wire.specs.Spelling.{IsSum}
 use Rattle.dory_verify.specs.declared.fault.CheckFault.{CheckFault}
 use Rattle.dory_verify.specs.declared.fault.CheckFault.TheVariants as fault
 use Rattle.dory_verify.specs.Tags.{xor_bits, tag_sum}
-use Rattle.dory_verify.specs.Listing.{crossed, plain_cell, is_listed, listed_from}
+use Rattle.dory_verify.specs.Listing.{crossed, plain_cell, is_line_listed, listed_from}
 use Rattle.dory_verify.specs.Checks.{same_place, same_manifest, adds_up, all_add_up}
 
 -- something to stand past the last line and the last sum
@@ -188,27 +188,27 @@ abbrev pub cell_is : FolderKeys → List ℕ → List (List Bool) → ℕ → Pl
 cell_is keys columns bits line p k = plain_cell keys p (get_or columns k 0) (get_or (get_or bits k []) line false)
 
 pub all_listed : (keys : FolderKeys) (columns : List ℕ) (bits : List (List Bool)) (line : ℕ) (p : Place) → length bits ≡ length columns
-    → ((k : ℕ) → k < length columns → cell_is keys columns bits line p k ≡ true) → is_listed keys columns bits line p ≡ true
+    → ((k : ℕ) → k < length columns → cell_is keys columns bits line p k ≡ true) → is_line_listed keys columns bits line p ≡ true
 all_listed keys [] bits line p e each = refl
 all_listed keys (c ∷ columns) [] line p e each = absurd (omega arith)
 all_listed keys (c ∷ columns) (b ∷ bits) line p e each =
-    ap (λ (x : Bool). x && is_listed keys columns bits line p) (each 0 (omega arith)) ∙ all_listed keys columns bits line p (omega arith) (λ k h. each (suc k) (omega arith))
+    ap (λ (x : Bool). x && is_line_listed keys columns bits line p) (each 0 (omega arith)) ∙ all_listed keys columns bits line p (omega arith) (λ k h. each (suc k) (omega arith))
 
 pub one_missing : (keys : FolderKeys) (columns : List ℕ) (bits : List (List Bool)) (line : ℕ) (p : Place) (k : ℕ) → length bits ≡ length columns → k < length columns
-    → cell_is keys columns bits line p k ≡ false → is_listed keys columns bits line p ≡ false
+    → cell_is keys columns bits line p k ≡ false → is_line_listed keys columns bits line p ≡ false
 one_missing keys [] bits line p k e h is = absurd (omega arith)
 one_missing keys (c ∷ columns) [] line p k e h is = absurd (omega arith)
-one_missing keys (c ∷ columns) (b ∷ bits) line p zero e h is = ap (λ (x : Bool). x && is_listed keys columns bits line p) is
+one_missing keys (c ∷ columns) (b ∷ bits) line p zero e h is = ap (λ (x : Bool). x && is_line_listed keys columns bits line p) is
 one_missing keys (c ∷ columns) (b ∷ bits) line p (suc k) e h is = both (plain_cell keys p c (get_or b line false)) (one_missing keys columns bits line p k (omega arith) (omega arith) is)
   where
-    both : (x : Bool) → is_listed keys columns bits line p ≡ false → (x && is_listed keys columns bits line p) ≡ false
+    both : (x : Bool) → is_line_listed keys columns bits line p ≡ false → (x && is_line_listed keys columns bits line p) ≡ false
     both true i = i
     both false i = refl
 
 -- ---- the lines
 
 -- a line that is listed, and one that isn't
-pub line_listed : (keys : FolderKeys) (columns : List ℕ) (bits : List (List Bool)) (line : ℕ) (places : List Place) (p d : Place) (docs : List ℕ) (doc : ℕ) → line < length places → p ≡ get_or places line d → doc ≡ p.doc.0 → is_listed keys columns bits line p ≡ true
+pub line_listed : (keys : FolderKeys) (columns : List ℕ) (bits : List (List Bool)) (line : ℕ) (places : List Place) (p d : Place) (docs : List ℕ) (doc : ℕ) → line < length places → p ≡ get_or places line d → doc ≡ p.doc.0 → is_line_listed keys columns bits line p ≡ true
     → (docs ++ doc ∷ []) ++ listed_from keys columns bits (line + 1) (drop (suc line) places) ≡ docs ++ listed_from keys columns bits line (drop line places)
 line_listed keys columns bits line places p d docs doc h is doc_is set =
     let more = listed_from keys columns bits (line + 1) (drop (suc line) places) in
@@ -220,7 +220,7 @@ line_listed keys columns bits line places p d docs doc h is doc_is set =
     cut : drop line places ≡ p ∷ drop (suc line) places
     cut = drop-cons places line d h ∙ ap (λ (x : Place). x ∷ drop (suc line) places) (sym is)
 
-pub line_left_out : (keys : FolderKeys) (columns : List ℕ) (bits : List (List Bool)) (line : ℕ) (places : List Place) (p d : Place) (docs : List ℕ) → line < length places → p ≡ get_or places line d → is_listed keys columns bits line p ≡ false
+pub line_left_out : (keys : FolderKeys) (columns : List ℕ) (bits : List (List Bool)) (line : ℕ) (places : List Place) (p d : Place) (docs : List ℕ) → line < length places → p ≡ get_or places line d → is_line_listed keys columns bits line p ≡ false
     → docs ++ listed_from keys columns bits (line + 1) (drop (suc line) places) ≡ docs ++ listed_from keys columns bits line (drop line places)
 line_left_out keys columns bits line places p d docs h is clear =
     let more = listed_from keys columns bits (line + 1) (drop (suc line) places) in

@@ -28,7 +28,7 @@ use Rattle.dory_verify.specs.declared.fault.CheckFault.TheVariants as fault
 use Rattle.dory_verify.specs.Tags.{xor_bits, line_tag, tag_sum}
 use Rattle.dory_verify.specs.SideBySide.{IsTagged}
 use Rattle.dory_verify.specs.Honest.{reply, found_by, IsSearch}
-use Rattle.dory_verify.specs.Checks.{◌>>=◌, is_allowed, formed, framed, form, same_ask, echo, found_of, not_stale, same_version, same_place, same_manifest, counted, adds_up, all_add_up, lengths_of, both_found, of_one_version, first_fault_of}
+use Rattle.dory_verify.specs.Checks.{◌>>=◌, is_allowed, formed, framed, form, same_ask, echo, found_given, not_stale, same_version, same_place, same_manifest, counted, adds_up, all_add_up, lengths_of, both_found, of_one_version, first_fault_of}
 use Rattle.dory_verify.proofs.Shifts.{sums_add}
 use Rattle.dory_verify.proofs.Tagged.{all_tagged, entries_taken}
 
@@ -80,7 +80,7 @@ lengths_pass seen first second lead follow n m r s l l' =
 
 -- two allowed kinds pass Form and Echo
 answers_are : (first second : AskId) (lead follow : List ℕ) (v w : What) → reply_in lead ≡ Some (reply first v) → reply_in follow ≡ Some (reply second w) → is_allowed false v ≡ true → is_allowed false w ≡ true
-    → both_found first second lead follow ≡ (found_of Lead v >>= (λ l. found_of Follow w >>= (λ f. Ok (l, f))))
+    → both_found first second lead follow ≡ (found_given Lead v >>= (λ l. found_given Follow w >>= (λ f. Ok (l, f))))
 unfolding both_found
 answers_are first second lead follow v w r s lead_allowed follow_allowed =
     bind_is (form Lead false lead) (reply first v) _ _ (form_is Lead false lead (reply first v) r lead_allowed)

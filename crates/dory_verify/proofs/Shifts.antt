@@ -11,8 +11,8 @@ use Rattle.dory_base.specs.declared.found.Sum.{Sum}
 use Rattle.dory_base.specs.Table.{Slots, Live, live_of, place_of, manifest_of}
 use Rattle.dory_base.specs.Sum.{row_of, tags_of, selected, parity, xor_all, sum_of}
 use Rattle.dory_base.proofs.Selected.{xor_all-append, swap_middle}
-use Rattle.dory_verify.specs.SideBySide.{IsTagged, cells_at, AddUp, ShowsCells, Both, other_of, IsAsked, IsChecked, IsShown}
-use Rattle.dory_verify.specs.Tags.{xor_bits, tags_at}
+use Rattle.dory_verify.specs.SideBySide.{IsTagged, cells_at, AddUp, ShowsCells, Both, other_of, HasPointPair, IsChecked, IsShown}
+use Rattle.dory_verify.specs.Tags.{xor_bits, line_tags}
 use Rattle.dory_verify.specs.Forgery.{Probe, flips_of, both_tags, flips, IsShifted, SomeFlip, IsForgeryOf}
 use Rattle.dory_verify.proofs.TagLaws.{DifferAt, cancel, tags_differ, point_selected, point_parity, bit_cancel}
 
@@ -33,7 +33,7 @@ bits_point tag m us vs c (x ∷ ls) all p q l h =
     ∙ ap (λ bs. get_or (row_of x.entry.change) c false ∷ bs) (bits_point tag m us vs c ls all.1 p q l h)
 
 tags_point : (tag : ℕ → Place → Bool → ℕ) (m : ℕ) (us vs : List Bool) (c : ℕ) (ls : List Live) → AllByRecursion (IsTagged tag m) ls → length us ≡ m → length vs ≡ m → c < m → DifferAt us vs c
-    → bit_xor (tag_by ls us) (tag_by ls vs) ≡ xor_all (tags_at (tag c) (places ls) (cells_at c ls))
+    → bit_xor (tag_by ls us) (tag_by ls vs) ≡ xor_all (line_tags (tag c) (places ls) (cells_at c ls))
 tags_point tag m us vs c [] all p q l h = xor_zero_l 0
 tags_point tag m us vs c (x ∷ ls) all p q l h =
     (λ i. bit_xor (xor_all-append (selected us (tags_of x.entry.change)) (flat_map (λ (y : Live). selected us (tags_of y.entry.change)) ls) i) (xor_all-append (selected vs (tags_of x.entry.change)) (flat_map (λ (y : Live). selected vs (tags_of y.entry.change)) ls) i))
@@ -72,7 +72,7 @@ bits_show tag m c slots us vs all l pair = bits_point tag m us vs c (live_of slo
 pub sums_add : (tag : ℕ → Place → Bool → ℕ) (m c : ℕ) (slots : Slots) (us vs : List Bool) → AllByRecursion (IsTagged tag m) (live_of slots) → c < m → IsPointPair m c us vs → AddUp tag slots c (sum_of slots us) (sum_of slots vs)
 sums_add tag m c slots us vs all l pair =
     tags_point tag m us vs c (live_of slots) all pair.lead_has pair.follow_has l (pair_differs m c us vs pair l)
-    ∙ ap (λ (bs : List Bool). xor_all (tags_at (tag c) (places (live_of slots)) bs)) (sym (bits_show tag m c slots us vs all l pair))
+    ∙ ap (λ (bs : List Bool). xor_all (line_tags (tag c) (places (live_of slots)) bs)) (sym (bits_show tag m c slots us vs all l pair))
 
 -- a sum whose tags add up beside an honest one is shifted by what it flips
 pub shifted : (tag : ℕ → Place → Bool → ℕ) (m c : ℕ) (slots : Slots) (mine : List Bool) (p : Probe) (given : Sum)
@@ -115,7 +115,7 @@ shows_cells tag m c slots mine p given all l pair n none =
     ap (xor_bits (bits_by (live_of slots) mine)) (same_bits (places (live_of slots)) given.bits (bits_by (live_of slots) p.shares) n (length-bits (live_of slots) p.shares) none)
     ∙ bits_show tag m c slots mine p.shares all l pair
 
-all_shifted : (tag : ℕ → Place → Bool → ℕ) (m : ℕ) (slots : Slots) (bs : List Both) (sums : List Sum) → AllByRecursion (IsTagged tag m) (live_of slots) → AllByRecursion (IsAsked m) bs → AllZip (IsChecked tag slots) bs sums
+all_shifted : (tag : ℕ → Place → Bool → ℕ) (m : ℕ) (slots : Slots) (bs : List Both) (sums : List Sum) → AllByRecursion (IsTagged tag m) (live_of slots) → AllByRecursion (HasPointPair m) bs → AllZip (IsChecked tag slots) bs sums
     → AllZip (IsShifted tag slots) (map other_of bs) sums
 all_shifted tag m slots [] [] sealed all checked = tt
 all_shifted tag m slots [] (s ∷ sums) sealed all checked = absurd checked
@@ -123,7 +123,7 @@ all_shifted tag m slots (b ∷ bs) [] sealed all checked = absurd checked
 all_shifted tag m slots (b ∷ bs) (s ∷ sums) sealed all checked =
     (shifted tag m b.column slots b.mine (other_of b) s sealed refl all.0.within all.0.pair checked.0.count checked.0.adds, all_shifted tag m slots bs sums sealed all.1 checked.1)
 
-flips_or_shows : (tag : ℕ → Place → Bool → ℕ) (m : ℕ) (slots : Slots) (bs : List Both) (sums : List Sum) → AllByRecursion (IsTagged tag m) (live_of slots) → AllByRecursion (IsAsked m) bs → AllZip (IsChecked tag slots) bs sums
+flips_or_shows : (tag : ℕ → Place → Bool → ℕ) (m : ℕ) (slots : Slots) (bs : List Both) (sums : List Sum) → AllByRecursion (IsTagged tag m) (live_of slots) → AllByRecursion (HasPointPair m) bs → AllZip (IsChecked tag slots) bs sums
     → SomeFlip slots (map other_of bs) sums ⊎ AllZip (IsShown slots) bs sums
 flips_or_shows tag m slots [] [] sealed all checked = inr tt
 flips_or_shows tag m slots [] (s ∷ sums) sealed all checked = absurd checked
@@ -136,7 +136,7 @@ flips_or_shows tag m slots (b ∷ bs) (s ∷ sums) sealed all checked = by (flip
     by [] e (inr rest) = inr (shows_cells tag m b.column slots b.mine (other_of b) s sealed all.0.within all.0.pair checked.0.count e, rest)
 
 -- the law of verification: beside an honest domain, sums whose tags add up at every probe show the cells, or are the forgery
-pub verified : (tag : ℕ → Place → Bool → ℕ) (m : ℕ) (slots : Slots) (bs : List Both) (sums : List Sum) → AllByRecursion (IsTagged tag m) (live_of slots) → AllByRecursion (IsAsked m) bs → AllZip (IsChecked tag slots) bs sums
+pub verified : (tag : ℕ → Place → Bool → ℕ) (m : ℕ) (slots : Slots) (bs : List Both) (sums : List Sum) → AllByRecursion (IsTagged tag m) (live_of slots) → AllByRecursion (HasPointPair m) bs → AllZip (IsChecked tag slots) bs sums
     → IsForgeryOf tag slots (map other_of bs) sums ⊎ AllZip (IsShown slots) bs sums
 verified tag m slots bs sums sealed all checked =
     ⊎_elim (λ (s : SomeFlip slots (map other_of bs) sums). inl (record { some = s; each = all_shifted tag m slots bs sums sealed all checked })) (λ (a : AllZip (IsShown slots) bs sums). inr a) (flips_or_shows tag m slots bs sums sealed all checked)

@@ -7,7 +7,7 @@ use Rattle.dory_base.specs.Xor.{xor}
 use Rattle.dory_base.specs.declared.found.Place.{Place}
 use Rattle.dory_base.specs.Sum.{selected, parity, xor_all}
 use Rattle.dory_base.proofs.Selected.{swap_middle}
-use Rattle.dory_verify.specs.Tags.{tags_at}
+use Rattle.dory_verify.specs.Tags.{line_tags}
 use Rattle.dory_verify.specs.Forgery.{flips_of, both_tags}
 
 -- equal heads cancel
@@ -16,18 +16,18 @@ cancel a x y = swap_middle a x a y ∙ ap (λ z. bit_xor z (bit_xor x y)) (xor_s
 
 -- the tags of two lists of bits differ by the two tags of each flipped line
 pub tags_differ : (tag : Place → Bool → ℕ) (ls : List Place) (us vs : List Bool) → length us ≡ length ls → length vs ≡ length ls
-    → bit_xor (xor_all (tags_at tag ls us)) (xor_all (tags_at tag ls vs)) ≡ xor_all (map (both_tags tag) (flips_of ls us vs))
+    → bit_xor (xor_all (line_tags tag ls us)) (xor_all (line_tags tag ls vs)) ≡ xor_all (map (both_tags tag) (flips_of ls us vs))
 tags_differ tag [] us vs p q = xor_zero_l 0
 tags_differ tag (l ∷ ls) [] vs p q = absurd (omega arith)
 tags_differ tag (l ∷ ls) (a ∷ us) [] p q = absurd (omega arith)
 tags_differ tag (l ∷ ls) (true ∷ us) (true ∷ vs) p q = cancel (tag l true) _ _ ∙ tags_differ tag ls us vs (omega arith) (omega arith)
 tags_differ tag (l ∷ ls) (false ∷ us) (false ∷ vs) p q = cancel (tag l false) _ _ ∙ tags_differ tag ls us vs (omega arith) (omega arith)
 tags_differ tag (l ∷ ls) (true ∷ us) (false ∷ vs) p q =
-    swap_middle (tag l true) (xor_all (tags_at tag ls us)) (tag l false) (xor_all (tags_at tag ls vs))
-    ∙ ap (λ z. bit_xor z (bit_xor (xor_all (tags_at tag ls us)) (xor_all (tags_at tag ls vs)))) (xor_comm (tag l true) (tag l false))
+    swap_middle (tag l true) (xor_all (line_tags tag ls us)) (tag l false) (xor_all (line_tags tag ls vs))
+    ∙ ap (λ z. bit_xor z (bit_xor (xor_all (line_tags tag ls us)) (xor_all (line_tags tag ls vs)))) (xor_comm (tag l true) (tag l false))
     ∙ ap (bit_xor (both_tags tag l)) (tags_differ tag ls us vs (omega arith) (omega arith))
 tags_differ tag (l ∷ ls) (false ∷ us) (true ∷ vs) p q =
-    swap_middle (tag l false) (xor_all (tags_at tag ls us)) (tag l true) (xor_all (tags_at tag ls vs))
+    swap_middle (tag l false) (xor_all (line_tags tag ls us)) (tag l true) (xor_all (line_tags tag ls vs))
     ∙ ap (bit_xor (both_tags tag l)) (tags_differ tag ls us vs (omega arith) (omega arith))
 
 -- two selectors that differ at this place and at no other

@@ -89,13 +89,13 @@ length_of side (Committed number id) = Err (fault.Form side 4)
 length_of side (Refused code) = Err (fault.Refused side code)
 
 -- Refused: a Found isn't refused, and gives what was found
-abbrev pub found_of : Side → What → Result Found CheckFault
-found_of side (At length) = Err (fault.Form side 4)
-found_of side (Finds_ f) = Ok f
-found_of side (Id number id) = Err (fault.Form side 4)
-found_of side (Staged id) = Err (fault.Form side 4)
-found_of side (Committed number id) = Err (fault.Form side 4)
-found_of side (Refused code) = Err (fault.Refused side code)
+abbrev pub found_given : Side → What → Result Found CheckFault
+found_given side (At length) = Err (fault.Form side 4)
+found_given side (Finds_ f) = Ok f
+found_given side (Id number id) = Err (fault.Form side 4)
+found_given side (Staged id) = Err (fault.Form side 4)
+found_given side (Committed number id) = Err (fault.Form side 4)
+found_given side (Refused code) = Err (fault.Refused side code)
 
 -- Stale: a length or a version is at least what was seen
 abbrev pub not_stale : Side → ℕ → ℕ → Result (Unit {0}) CheckFault
@@ -159,8 +159,8 @@ both_found first second lead follow = do
   f ← form Follow false follow
   e ← echo Lead first l
   g ← echo Follow second f
-  found ← found_of Lead l.what
-  other ← found_of Follow f.what
+  found ← found_given Lead l.what
+  other ← found_given Follow f.what
   Ok (found, other)
 
 -- what two domains found is of one version, the one that was asked, and has a sum for each probe; or the first fault

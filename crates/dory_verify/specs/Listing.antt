@@ -21,16 +21,16 @@ abbrev pub plain_cell : FolderKeys → Place → ℕ → Bool → Bool
 plain_cell keys p column cell = xor cell (mask_bit_of keys p.doc p.id column)
 
 -- the plain cells of a line are set at every column
-abbrev pub is_listed : FolderKeys → List ℕ → List (List Bool) → ℕ → Place → Bool
-is_listed keys [] bits line p = true
-is_listed keys (c ∷ columns) [] line p = false
-is_listed keys (c ∷ columns) (b ∷ bits) line p = plain_cell keys p c (slice_index_or b line false) && is_listed keys columns bits line p
+abbrev pub is_line_listed : FolderKeys → List ℕ → List (List Bool) → ℕ → Place → Bool
+is_line_listed keys [] bits line p = true
+is_line_listed keys (c ∷ columns) [] line p = false
+is_line_listed keys (c ∷ columns) (b ∷ bits) line p = plain_cell keys p c (slice_index_or b line false) && is_line_listed keys columns bits line p
 
 -- the documents of the lines from this one on whose plain cells are set
 abbrev pub listed_from : FolderKeys → List ℕ → List (List Bool) → ℕ → List Place → List ℕ
 listed_from keys columns bits line [] = []
 listed_from keys columns bits line (p ∷ places) =
-    if is_listed keys columns bits line p
+    if is_line_listed keys columns bits line p
     then p.doc.0 ∷ listed_from keys columns bits (line + 1) places
     else listed_from keys columns bits (line + 1) places
 

@@ -5,7 +5,7 @@ use Rattle.dory_base.specs.declared.found.Place.{Place}
 use Rattle.dory_base.specs.declared.found.Sum.{Sum}
 use Rattle.dory_base.specs.Table.{Slots, Live, live_of, place_of, manifest_of}
 use Rattle.dory_base.specs.Sum.{row_of, tags_of, xor_all, sum_of}
-use Rattle.dory_verify.specs.Tags.{xor_bits, tags_at}
+use Rattle.dory_verify.specs.Tags.{xor_bits, line_tags}
 use Rattle.dory_verify.specs.Forgery.{Probe}
 
 -- a live slot whose row and tags have a cell for each column, each tag that of its cell
@@ -20,7 +20,7 @@ cells_at c ls = map (λ (l : Live). slice_index_or (row_of l.entry.change) c fal
 
 -- the tags add up beside an honest sum: the XOR of the two is that of the cell tags of the XOR of the bits
 abbrev pub AddUp : (ℕ → Place → Bool → ℕ) → Slots → ℕ → Sum → Sum → Type 0
-AddUp tag slots c mine given = bit_xor mine.tag given.tag ≡ xor_all (tags_at (tag c) (manifest_of slots) (xor_bits mine.bits given.bits))
+AddUp tag slots c mine given = bit_xor mine.tag given.tag ≡ xor_all (line_tags (tag c) (manifest_of slots) (xor_bits mine.bits given.bits))
 
 -- the bits of the two sums XOR to the cells of the probe's column
 abbrev pub ShowsCells : Slots → ℕ → Sum → Sum → Type 0
@@ -37,7 +37,7 @@ abbrev pub other_of : Both → Probe
 other_of b = record { column = b.column; shares = b.other }
 
 -- the shares are a point pair for the column
-pub record IsAsked (m : ℕ) (b : Both) : Type 0 where
+pub record HasPointPair (m : ℕ) (b : Both) : Type 0 where
   pub within : b.column < m
   pub pair : IsPointPair m b.column b.mine b.other
 

@@ -13,10 +13,10 @@ xor_bits (a ∷ more) [] = []
 xor_bits (a ∷ more) (b ∷ bs) = xor a b ∷ xor_bits more bs
 
 -- the tags of the lines' cells in one column, where the cells are these bits
-abbrev pub tags_at : (Place → Bool → ℕ) → List Place → List Bool → List ℕ
-tags_at tag [] bits = []
-tags_at tag (p ∷ places) [] = []
-tags_at tag (p ∷ places) (b ∷ bits) = tag p b ∷ tags_at tag places bits
+abbrev pub line_tags : (Place → Bool → ℕ) → List Place → List Bool → List ℕ
+line_tags tag [] bits = []
+line_tags tag (p ∷ places) [] = []
+line_tags tag (p ∷ places) (b ∷ bits) = tag p b ∷ line_tags tag places bits
 
 -- the cell tag of a line's document and update in a column
 abbrev pub line_tag : FolderKeys → ℕ → Place → Bool → ℕ
@@ -24,4 +24,4 @@ line_tag keys column p cell = cell_tag_of keys p.doc p.id column cell
 
 -- the XOR of the lines' cell tags
 abbrev pub tag_sum : FolderKeys → ℕ → List Place → List Bool → ℕ
-tag_sum keys column places bits = xor_all (tags_at (line_tag keys column) places bits)
+tag_sum keys column places bits = xor_all (line_tags (line_tag keys column) places bits)

@@ -20,11 +20,11 @@ ghost use Rattle.dory_verify.specs.Forgery.{IsForgery};
 ghost use Rattle.dory_verify.specs.Honest.{reply, IsFoundIn, found_by, IsSearch};
 ghost use Rattle.dory_verify.specs.Listing.{Lists};
 ghost use Rattle.dory_verify.specs.Forgery.{IsForgeryOf};
-ghost use Rattle.dory_verify.specs.SideBySide.{Both, other_of, IsTagged, IsAsked, IsChecked, IsShown};
+ghost use Rattle.dory_verify.specs.SideBySide.{Both, other_of, IsTagged, HasPointPair, IsChecked, IsShown};
 
 /// Beside an honest domain, sums whose tags add up at every probe show the cells, or are the forgery.
 pub fn verified()
-    ensures { (tag : ℕ → Place → Bool → ℕ) (m : ℕ) (slots : Slots) (bs : List Both) (sums : List Sum) → AllByRecursion (IsTagged tag m) (live_of slots) → AllByRecursion (IsAsked m) bs → AllZip (IsChecked tag slots) bs sums
+    ensures { (tag : ℕ → Place → Bool → ℕ) (m : ℕ) (slots : Slots) (bs : List Both) (sums : List Sum) → AllByRecursion (IsTagged tag m) (live_of slots) → AllByRecursion (HasPointPair m) bs → AllZip (IsChecked tag slots) bs sums
         → IsForgeryOf tag slots (map other_of bs) sums ⊎ AllZip (IsShown slots) bs sums }
 {}
 

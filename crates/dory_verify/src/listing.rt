@@ -4,7 +4,7 @@ ghost use Rattle.std.specs.List.{AllByRecursion, list_any};
 ghost use Rattle.dory_base.specs.Xor.{xor};
 ghost use Rattle.dory_seal.specs.Epoch.{epoch_of};
 ghost use Rattle.dory_verify.specs.Answer.{IsRising, numbers};
-ghost use Rattle.dory_verify.specs.Listing.{crossed, plain_cell, is_listed, listed_from};
+ghost use Rattle.dory_verify.specs.Listing.{crossed, plain_cell, is_line_listed, listed_from};
 ghost use Rattle.dory_wire.specs.Spelling.{IsSum};
 
 use crate::epochs::turn_to;
@@ -82,7 +82,7 @@ fn is_set_in(
 fn is_listed(keys: &EpochKeys, columns: &[u16], bits: &[Bits], line: usize, place: Place) -> bool
     requires epoch { epoch_of place.id ≡ keys.now.epoch }
     requires many { length bits.now ≡ length columns.now }
-    ensures { result ≡ is_listed keys.now.keys columns.now bits.now line place }
+    ensures { result ≡ is_line_listed keys.now.keys columns.now bits.now line place }
 {
     for probe in 0..columns.len() {
         let block = columns[probe] / BLOCK;

@@ -1,7 +1,7 @@
 //! The checks of one reply: Form, Echo, Refused and Stale.
 ghost use Rattle.std.specs.Prelude.{◌≡◌, ◌≤◌, IfOk, IsTrue};
 ghost use Rattle.dory_wire.specs.Spelling.{IsReply, IsWhat, IsFound};
-ghost use Rattle.dory_verify.specs.Checks.{Finds, form, echo, is_allowed, same_ask, length_of, found_of, not_stale};
+ghost use Rattle.dory_verify.specs.Checks.{Finds, form, echo, is_allowed, same_ask, length_of, found_given, not_stale};
 
 use crate::fault::{CheckFault, VerifyError};
 use dory_base::{AskId, Found, Side};
@@ -89,7 +89,7 @@ pub fn length(side: Side, what: &What) -> Result<u32, VerifyError>
 /// What a reply to Search found.
 pub fn found(side: Side, what: What) -> Result<Found, VerifyError>
     requires { IsWhat what }
-    ensures exact { Finds result (found_of side what) }
+    ensures exact { Finds result (found_given side what) }
     ensures range { IfOk result (λ f. IsFound f) }
 {
     match what {

@@ -5,7 +5,7 @@ use Rattle.std.proofs.lemmas.List.{append_assoc, append-nil, map-append}
 use Rattle.std.proofs.lemmas.List.Elements.{All-head, All-tail, All-weaker}
 use Rattle.std.proofs.lemmas.List.Splits.{slice_split-cons_yes, slice_split_none, slice_split_at}
 use Rattle.dory_base.specs.Words.{is_word_byte, is_separator, word_of}
-use Rattle.dory_words.specs.Division.{Piece, ArePieces, bytes_of, IsDivision, AreWords}
+use Rattle.dory_words.specs.Division.{Piece, ArePieces, joined_bytes, IsDivision, AreWords}
 use Rattle.dory_words.specs.WordsIn.{has_bytes, runs_in, words_in}
 
 -- ---- runs without separators
@@ -65,17 +65,17 @@ run_last run (y ∷ gap) some all cuts =
     ap (λ (xs : List ℕ). runs_in (run ++ xs)) (sym (append-nil (y ∷ gap)))
     ∙ run_before run (y ∷ gap) [] some all cuts (omega arith)
 
-runs_of_pieces : (pieces : List Piece) → ArePieces pieces → runs_in (bytes_of pieces) ≡ map (λ p. p.run) pieces
+runs_of_pieces : (pieces : List Piece) → ArePieces pieces → runs_in (joined_bytes pieces) ≡ map (λ p. p.run) pieces
 runs_of_pieces [] are = refl
 runs_of_pieces (p ∷ []) are =
     ap runs_in (append-nil (p.run ++ p.gap)) ∙ run_last p.run p.gap are.some are.word_bytes are.separators
 runs_of_pieces (p ∷ q ∷ ps) are =
-    ap runs_in (append_assoc p.run p.gap (bytes_of (q ∷ ps)))
-    ∙ run_before p.run p.gap (bytes_of (q ∷ ps)) are.0.some are.0.word_bytes are.0.separators are.1
+    ap runs_in (append_assoc p.run p.gap (joined_bytes (q ∷ ps)))
+    ∙ run_before p.run p.gap (joined_bytes (q ∷ ps)) are.0.some are.0.word_bytes are.0.separators are.1
     ∙ ap (λ (runs : List (List ℕ)). p.run ∷ runs) (runs_of_pieces (q ∷ ps) are.2)
 
 pub runs_of_division : (text gap : List ℕ) (pieces : List Piece) → IsDivision text gap pieces → runs_in text ≡ map (λ p. p.run) pieces
-runs_of_division text gap pieces d = ap runs_in d.text_is ∙ gap_before gap (bytes_of pieces) d.separators ∙ runs_of_pieces pieces d.are_pieces
+runs_of_division text gap pieces d = ap runs_in d.text_is ∙ gap_before gap (joined_bytes pieces) d.separators ∙ runs_of_pieces pieces d.are_pieces
 
 map_map : (pieces : List Piece) → map word_of (map (λ p. p.run) pieces) ≡ map (λ p. word_of p.run) pieces
 map_map [] = refl

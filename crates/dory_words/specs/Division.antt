@@ -21,12 +21,12 @@ ArePieces (p ∷ []) = IsPiece p
 ArePieces (p ∷ q ∷ ps) = IsPiece p × (1 ≤ length p.gap) × ArePieces (q ∷ ps)
 
 -- the bytes of pieces, one after another
-abbrev pub bytes_of : List Piece → List ℕ
-bytes_of pieces = flat_map (λ p. p.run ++ p.gap) pieces
+abbrev pub joined_bytes : List Piece → List ℕ
+joined_bytes pieces = flat_map (λ p. p.run ++ p.gap) pieces
 
 -- the text is separators, if any, and then these pieces: each run is as long as it can be
 pub record IsDivision (text gap : List ℕ) (pieces : List Piece) : Type 0 where
-  pub text_is : text ≡ gap ++ bytes_of pieces
+  pub text_is : text ≡ gap ++ joined_bytes pieces
   pub separators : AllPass is_separator gap
   pub are_pieces : ArePieces pieces
 

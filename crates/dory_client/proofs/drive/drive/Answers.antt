@@ -1,5 +1,5 @@
 use Rattle.std.proofs.Common.{arith, refl}
-use Rattle.dory_member.specs.Course.{request_of}
+use Rattle.dory_member.specs.Course.{ask_request}
 use Rattle.dory_client.specs.Way.{links}
 use Rattle.dory_client.proofs.Drives.{breaks, falls, goes_further, not_yet, puts, stops}
 use Rattle.dory_client.proofs.drive.drive.Goals as goal
@@ -18,7 +18,7 @@ pub returns-in-Err-clause-broke : goal.returns-in-Err-clause-broke
 returns-in-Err-clause-broke g c =
     let p = puts c.loop-side.member c.in-Ask.side c.in-Ask.frame.now c.in-Ask.ensures.turn in
     breaks c.args.member.now c.loop-side.member _ _ _ c.in-Ask.side c.in-Ask.frame.now c.in-Err.end c.loop-side.invariant.goes p
-    (c.in-Err.ensures.unanswered (request_of c.loop-side.member.run p.ask) (c.in-Ask.ensures.request p.ask p.asked)) c.in-Err.ensures.fails
+    (c.in-Err.ensures.unanswered (ask_request c.loop-side.member.run p.ask) (c.in-Ask.ensures.request p.ask p.asked)) c.in-Err.ensures.fails
 
 pub loop-side-smaller : goal.loop-side-smaller
 loop-side-smaller g c = falls c.loop-side.member c.take_reply.new.self c.deref.result.now (c.in-Ask.ensures.few refl) c.take_reply.ensures
@@ -28,7 +28,7 @@ loop-side-preserved g c =
     let p = puts c.loop-side.member c.in-Ask.side c.in-Ask.frame.now c.in-Ask.ensures.turn in
     record {
       goes = goes_further c.args.member.now c.loop-side.member c.take_reply.new.self _ _ _ c.in-Ask.side c.in-Ask.frame.now c.in-Ok.reply.items c.loop-side.invariant.goes p
-          (c.in-Ok.ensures.asked (request_of c.loop-side.member.run p.ask) (c.in-Ask.ensures.request p.ask p.asked)) (rw c.deref.ensures.value at c.take_reply.ensures);
+          (c.in-Ok.ensures.asked (ask_request c.loop-side.member.run p.ask) (c.in-Ask.ensures.request p.ask p.asked)) (rw c.deref.ensures.value at c.take_reply.ensures);
       lead = omega (arith, c.loop-side.invariant.lead, c.in-Ok.ensures.lead.later);
       follow = omega (arith, c.loop-side.invariant.follow, c.in-Ok.ensures.follow.later);
     }

@@ -1,11 +1,11 @@
 use Rattle.std.proofs.Common.{◌-◌, ◌≤◌}
-use Rattle.dory_client.specs.Driven.{GoesOn}
+use Rattle.dory_client.specs.Driven.{MemberWentOn}
 use Rattle.dory_client.specs.Way.{links}
 use Rattle.dory_client.proofs.drive.drive.Given as goal
 
 abbrev pub invariant-loop-side : goal.invariant-loop-side
 invariant-loop-side g l = record {
-  goes : GoesOn l.fn.member (links (g.L0.Link.heard l.fn.lead) (g.L1.Link.heard l.fn.follow)) (links (g.L0.Link.heard l.lead) (g.L1.Link.heard l.follow)) l.member;
+  goes : MemberWentOn l.fn.member (links (g.L0.Link.heard l.fn.lead) (g.L1.Link.heard l.fn.follow)) (links (g.L0.Link.heard l.lead) (g.L1.Link.heard l.follow)) l.member;
   lead : g.L0.Link.faults l.fn.lead ≤ g.L0.Link.faults l.lead;
   follow : g.L1.Link.faults l.fn.follow ≤ g.L1.Link.faults l.follow;
 }

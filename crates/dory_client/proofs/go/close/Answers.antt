@@ -1,6 +1,6 @@
 use Rattle.std.proofs.Common.{ap, sym, ◌∙◌}
 use Rattle.dory_member.specs.Machine.{outcome_of}
-use Rattle.dory_client.specs.Goes.{SaveDone}
+use Rattle.dory_client.specs.CommandEnds.{SaveDone}
 use Rattle.dory_client.proofs.go.close.Goals as goal
 
 pub returns-clause-closes : goal.returns-clause-closes

@@ -1,10 +1,10 @@
 use Rattle.std.proofs.Common.{map, string_bytes}
-use Rattle.dory_client.proofs.Does.{accepted, does}
+use Rattle.dory_client.proofs.EffectLaws.{accepted, does}
 use Rattle.dory_client.proofs.Endings.{begins, finishes}
-use Rattle.dory_client.proofs.Leaving.{leaves}
-use Rattle.dory_client.proofs.Putting.{puts}
+use Rattle.dory_client.proofs.KeptLaws.{leaves}
+use Rattle.dory_client.proofs.AskLaws.{puts}
 use Rattle.dory_client.proofs.SearchEnds.{complete, ends_well}
-use Rattle.dory_client.proofs.Writing.{writes}
+use Rattle.dory_client.proofs.PrintLaws.{writes}
 use Rattle.dory_client.proofs.run.client_run.Goals as goal
 
 pub returns-clause-accepted : goal.returns-clause-accepted

@@ -6,16 +6,16 @@ use Rattle.dory_dpf.specs.declared.tree.Correction.{Correction}
 use Rattle.dory_dpf.specs.declared.tree.Node.{Node}
 use Rattle.dory_dpf.specs.Tree.{child_of}
 use Rattle.dory_expand.specs.Leaves.{leaves_of, node_bit}
-use Rattle.dory_expand.specs.Shown.{number_of}
+use Rattle.dory_expand.specs.Shown.{number_of_bits}
 use Rattle.dory_expand.proofs.LeafWords.{digit, joined_fits, joined_word}
 use Rattle.dory_expand.proofs.Walked.{after_first, leaves_none, length-leaves_of, parted, some_first}
 use Rattle.dory_expand.proofs.depth_first.+word_below.Goals as goal
 
-one_leaf : (n : Node) (cs : List Correction) → length cs ≡ 0 → number_of (n.bit ∷ []) ≡ number_of (map node_bit (leaves_of n cs))
-one_leaf n cs e = ap (λ (ns : List Node). number_of (map node_bit ns)) (sym (leaves_none n cs e))
+one_leaf : (n : Node) (cs : List Correction) → length cs ≡ 0 → number_of_bits (n.bit ∷ []) ≡ number_of_bits (map node_bit (leaves_of n cs))
+one_leaf n cs e = ap (λ (ns : List Node). number_of_bits (map node_bit ns)) (sym (leaves_none n cs e))
 
-one_digit : (b : Bool) → Rattle.std.specs.Int.from_bool b ≡ number_of (b ∷ [])
-unfolding number_of
+one_digit : (b : Bool) → Rattle.std.specs.Int.from_bool b ≡ number_of_bits (b ∷ [])
+unfolding number_of_bits
 one_digit b = digit b
 
 pub returns-then-is_empty : goal.returns-then-is_empty
@@ -32,9 +32,9 @@ side_bits : Bool → Node → List Correction → Correction → List Bool
 side_bits right n cs d = map node_bit (leaves_of (child_of right n (get_or cs 0 d)) (drop 1 cs))
 
 side_is : (right : Bool) (m n : Node) (cs : List Correction) (d : Correction) (x : ℕ) → m ≡ child_of right n (get_or cs 0 d)
-    → x ≡ number_of (map node_bit (leaves_of m (take (length cs - 1) (drop 1 cs)))) → x ≡ number_of (side_bits right n cs d)
+    → x ≡ number_of_bits (map node_bit (leaves_of m (take (length cs - 1) (drop 1 cs)))) → x ≡ number_of_bits (side_bits right n cs d)
 unfolding side_bits
-side_is right m n cs d x e f = f ∙ ap₂ (λ (v : Node) (ds : List Correction). number_of (map node_bit (leaves_of v ds))) e (after_first cs)
+side_is right m n cs d x e f = f ∙ ap₂ (λ (v : Node) (ds : List Correction). number_of_bits (map node_bit (leaves_of v ds))) e (after_first cs)
 
 length-side_bits : (right : Bool) (n : Node) (cs : List Correction) (d : Correction) → length (side_bits right n cs d) ≡ 2 ^ length (take (length cs - 1) (drop 1 cs))
 unfolding side_bits
@@ -43,10 +43,10 @@ length-side_bits right n cs d =
     ∙ sym (ap (λ (ds : List Correction). 2 ^ length ds) (after_first cs))
 
 both_sides : (n : Node) (cs : List Correction) (d : Correction) → 0 < length cs
-    → number_of (side_bits false n cs d ++ side_bits true n cs d) ≡ number_of (map node_bit (leaves_of n cs))
+    → number_of_bits (side_bits false n cs d ++ side_bits true n cs d) ≡ number_of_bits (map node_bit (leaves_of n cs))
 unfolding side_bits
 both_sides n cs d some =
-    ap number_of (sym (map-append node_bit (leaves_of (child_of false n (get_or cs 0 d)) (drop 1 cs)) (leaves_of (child_of true n (get_or cs 0 d)) (drop 1 cs)))
+    ap number_of_bits (sym (map-append node_bit (leaves_of (child_of false n (get_or cs 0 d)) (drop 1 cs)) (leaves_of (child_of true n (get_or cs 0 d)) (drop 1 cs)))
     ∙ ap (map node_bit) (sym (parted n cs d some)))
 
 zero : Correction

@@ -1,4 +1,4 @@
-use Rattle.dory_member.proofs.HeardLaws.{heard}
+use Rattle.dory_member.proofs.ConfirmationLaws.{heard}
 use Rattle.dory_member.proofs.law.confirmed_replies.Goals as goal
 
 pub returns : goal.returns

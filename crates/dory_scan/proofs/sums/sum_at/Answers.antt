@@ -4,7 +4,7 @@ use Rattle.dory_base.specs.declared.found.Sum.{Sum}
 use Rattle.std.proofs.lemmas.List.Elements.{at_read}
 use Rattle.dory_base.specs.Table.{Slots, live_of}
 use Rattle.dory_base.proofs.Selected.{tag_of}
-use Rattle.dory_scan.specs.Words.{parities_of, IsWord}
+use Rattle.dory_scan.specs.Words.{parities_of, IsWordOf}
 use Rattle.dory_scan.proofs.LineLaws.{length-parities}
 use Rattle.dory_scan.proofs.WordLaws.{words_at, length-words_at, word_at, words_are}
 use Rattle.dory_scan.proofs.sums.sum_at.Goals as goal
@@ -18,10 +18,10 @@ returns-clause-value g c =
     let ws : List ℕ = words_at blocks c.args.at in
     let count : length ws ≡ length blocks = length-words_at blocks c.args.at in
     let long : length bits ≡ c.args.lines = length-parities slots selector ∙ sym c.requires.lines in
-    let each : (k : ℕ) → k < length ws → IsWord bits k (get_or ws k 0) = λ k h.
+    let each : (k : ℕ) → k < length ws → IsWordOf bits k (get_or ws k 0) = λ k h.
     let low : k < length blocks = omega arith in
     let many = (c.requires.blocks k low).many in
-    subst (IsWord bits k) (sym (word_at blocks c.args.at k low)) ((c.requires.blocks k low).each c.args.at (omega (arith, many, c.requires.at))) in
+    subst (IsWordOf bits k) (sym (word_at blocks c.args.at k low)) ((c.requires.blocks k low).each c.args.at (omega (arith, many, c.requires.at))) in
     let are : c.in_ok-bits.bits ≡ bits = c.in_ok-bits.ensures ∙ words_are bits ws c.args.lines long (count ∙ c.requires.exact) each in
     let sum : List Bool → ℕ → Sum = λ b t. record { bits = b; tag = t } in
     let is : c.index-selectors-at.result ≡ selector = at_read c.args.selectors.now (λ (s : List Bool). c.index-selectors-at.result ≡ s) c.args.at c.index-selectors-at.result c.requires.at c.index-selectors-at.is refl [] in

@@ -19,7 +19,7 @@ use Rattle.dory_member.specs.declared.outcome.Fault.{Fault}
 use Rattle.dory_member.specs.declared.outcome.Fault.TheVariants as fault
 use Rattle.dory_member.specs.declared.phase.Single.{Single}
 use Rattle.dory_member.specs.declared.phase.Single.TheVariants.{Which, Stage, Order, Follow}
-use Rattle.dory_member.specs.Heard.{Heard}
+use Rattle.dory_member.specs.Confirmation.{Confirmation}
 use Rattle.dory_member.specs.Single.{◌>>=◌, checked, confirmed, form, formed, framed, is_answer, mark, said, wanted}
 
 bind_ok : {A B : Type 0} (r : Result A Fault) (f : A → Result B Fault) (y : B) → (r >>= f) ≡ Ok y → (x : A) × (r ≡ Ok x) × (f x ≡ Ok y)
@@ -53,7 +53,7 @@ echo_ok side asked r u is = by (same_ask r.ask asked) is
     by false e = absurd (cc)
 
 -- a frame that confirms a mark is such a reply
-pub heard : (side : Side) (ask : Single) (asked : AskId) (frame : List ℕ) (m : Mark) → confirmed side ask asked frame ≡ Ok m → Heard side ask asked frame m
+pub heard : (side : Side) (ask : Single) (asked : AskId) (frame : List ℕ) (m : Mark) → confirmed side ask asked frame ≡ Ok m → Confirmation side ask asked frame m
 unfolding confirmed
 heard side ask asked frame m e =
     let f = bind_ok (checked (form side ask frame)) _ m e in

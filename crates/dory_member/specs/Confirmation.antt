@@ -10,7 +10,7 @@ use Rattle.dory_member.specs.declared.phase.Single.{Single}
 use Rattle.dory_member.specs.Single.{said}
 
 -- the reply that a frame is, which passed the checks
-pub record Heard (side : Side) (ask : Single) (asked : AskId) (frame : List ℕ) (m : Mark) : Type 0 where
+pub record Confirmation (side : Side) (ask : Single) (asked : AskId) (frame : List ℕ) (m : Mark) : Type 0 where
   pub reply : Reply
   pub came : reply_in frame ≡ Some reply
   pub echoes : same_ask reply.ask asked ≡ true

@@ -20,7 +20,7 @@ use Rattle.dory_client.specs.declared.start.Todo.{Todo}
 use Rattle.dory_client.specs.declared.start.Start.{Start}
 use Rattle.dory_client.specs.declared.start.Start.TheVariants.{Init, Act}
 use Rattle.dory_client.specs.Command.{HasText}
-use Rattle.dory_client.specs.Goes.{line_of}
+use Rattle.dory_client.specs.CommandEnds.{outcome_line}
 use Rattle.dory_client.specs.Kept.{KeepsOf}
 use Rattle.dory_client.specs.Scene.{Input, Scene}
 use Rattle.dory_client.specs.Start.{start_of, command_of}
@@ -37,18 +37,18 @@ ToldAt (Some before) None folder number id = ⊥
 ToldAt (Some before) (Some now) folder number id = (t : Told) × (now folder ≡ Some t) × HasAt t.history number id
 
 -- both domains have the update at one number, which was written
-pub record IsConfirmed (folder : ℕ) (e : Entry) (a z : Scene) : Type 0 where
+pub record IsConfirmed (folder : ℕ) (e : Entry) (before after : Scene) : Type 0 where
   pub number : ℕ
-  pub by_lead : ToldAt a.lead.folders z.lead.folders folder number e.id
-  pub by_follow : ToldAt a.follow.folders z.follow.folders folder number e.id
-  pub written : Appends a.written z.written (line_of (updated e.change e.doc number))
+  pub by_lead : ToldAt before.lead.folders after.lead.folders folder number e.id
+  pub by_follow : ToldAt before.follow.folders after.follow.folders folder number e.id
+  pub written : Appends before.written after.written (outcome_line (updated e.change e.doc number))
 
 -- the same of a command that works on an update
 abbrev pub Confirms : ℕ → Phase → Scene → Scene → Type 0
-Confirms folder (Updating e at) a z = IsConfirmed folder e a z
-Confirms folder (Measuring word lead) a z = ⊤
-Confirms folder (Searching q lead) a z = ⊤
-Confirms folder (Ended outcome) a z = ⊤
+Confirms folder (Updating e at) before after = IsConfirmed folder e before after
+Confirms folder (Measuring word lead) before after = ⊤
+Confirms folder (Searching q lead) before after = ⊤
+Confirms folder (Ended outcome) before after = ⊤
 
 -- a version seen that a folder's history has, before and after: where it had the one seen before, it has the one seen now
 abbrev pub SeenOf : Option Told → Option Told → ℕ → ℕ → Type 0
@@ -63,34 +63,34 @@ SeenBy (Some old) None folder before after = ⊥
 SeenBy (Some old) (Some new) folder before after = SeenOf (old folder) (new folder) before after
 
 -- a command that was done in a state
-pub record IsDone (k : KeptState) (run : Run) (a z : Scene) : Type 0 where
+pub record IsDone (k : KeptState) (run : Run) (before after : Scene) : Type 0 where
   pub last : KeptState
-  pub kept : KeepsOf run a.kept z.kept last
+  pub kept : KeepsOf run before.kept after.kept last
   pub rises : k.seen ≤ last.seen
-  pub lead_seen : SeenBy a.lead.folders z.lead.folders k.folder.0 k.seen last.seen
-  pub follow_seen : SeenBy a.follow.folders z.follow.folders k.folder.0 k.seen last.seen
-  pub confirmed : Confirms k.folder.0 run.phase a z
+  pub lead_seen : SeenBy before.lead.folders after.lead.folders k.folder.0 k.seen last.seen
+  pub follow_seen : SeenBy before.follow.folders after.follow.folders k.folder.0 k.seen last.seen
+  pub confirmed : Confirms k.folder.0 run.phase before after
 
 -- the command of a line, in the state that is kept, and its run
-pub record IsBegun (t : Todo) (seed : List ℕ) (i i' : Input) (a : Scene) (k : KeptState) (run : Run) : Type 0 where
+pub record IsBegun (t : Todo) (seed : List ℕ) (input input' : Input) (before : Scene) (k : KeptState) (run : Run) : Type 0 where
   pub bytes : List ℕ
   pub text : List ℕ
-  pub is_kept : Tells a.kept (Some bytes)
+  pub is_kept : Tells before.kept (Some bytes)
   pub is_state : state_of bytes ≡ Ok k
   pub in_range : IsKeptState k
-  pub has_text : HasText t i i' text
+  pub has_text : HasText t input input' text
   pub begins : begun k seed (command_of k text t) ≡ Ok run
 
 -- a line that was done: a first state, or a command in the state that is kept
-abbrev pub DoesStart : Start → List ℕ → Input → Input → Scene → Scene → Type 0
-DoesStart (Init first) seed i i' a z = ⊤
-DoesStart (Act t) seed i i' a z = (k : KeptState) × (run : Run) × IsBegun t seed i i' a k run × IsDone k run a z
+abbrev pub StartEffects : Start → List ℕ → Input → Input → Scene → Scene → Type 0
+StartEffects (Init first) seed input input' before after = ⊤
+StartEffects (Act t) seed input input' before after = (k : KeptState) × (run : Run) × IsBegun t seed input input' before k run × IsDone k run before after
 
 -- the same of words that were read as a line
-abbrev pub DoesLine : Result Line UsageFault → List ℕ → Input → Input → Scene → Scene → Type 0
-DoesLine (Ok line) seed i i' a z = DoesStart (start_of line) seed i i' a z
-DoesLine (Err fault) seed i i' a z = ⊥
+abbrev pub LineEffects : Result Line UsageFault → List ℕ → Input → Input → Scene → Scene → Type 0
+LineEffects (Ok line) seed input input' before after = StartEffects (start_of line) seed input input' before after
+LineEffects (Err fault) seed input input' before after = ⊥
 
 -- what words that were done did
-abbrev pub Does : List (List ℕ) → List ℕ → Input → Input → Scene → Scene → Type 0
-Does words seed i i' a z = DoesLine (read_of words) seed i i' a z
+abbrev pub CallEffects : List (List ℕ) → List ℕ → Input → Input → Scene → Scene → Type 0
+CallEffects words seed input input' before after = LineEffects (read_of words) seed input input' before after

@@ -30,14 +30,14 @@ use Rattle.dory_client.specs.declared.start.Todo.TheVariants.{Plain}
 use Rattle.dory_client.specs.declared.start.Start.{Start}
 use Rattle.dory_client.specs.declared.start.Start.TheVariants.{Init, Act}
 use Rattle.dory_client.specs.declared.end.ClientEnd.TheVariants as ends
-use Rattle.dory_client.specs.Confirmed.{ToldAt, Confirms, SeenOf, SeenBy, IsDone, DoesStart, DoesLine, Does}
-use Rattle.dory_client.specs.Goes.{IsGood, line_of, scene_links}
+use Rattle.dory_client.specs.CallEffects.{ToldAt, Confirms, SeenOf, SeenBy, IsDone, StartEffects, LineEffects, CallEffects}
+use Rattle.dory_client.specs.CommandEnds.{IsGood, outcome_line, scene_links}
 use Rattle.dory_client.specs.Run.{IsRun, Loads, Runs}
 use Rattle.dory_client.specs.Scene.{Input, Scene}
-use Rattle.dory_client.specs.Headline.{Accepts, IsAccepted, IsRight, IsRightBy, IsRightOf, Part}
+use Rattle.dory_client.specs.Headline.{Accepts, IsAccepted, IsRight, IsRightBy, IsRightOf, SidePart}
 use Rattle.dory_client.specs.Sought.{sought_of}
 use Rattle.dory_client.specs.Start.{command_of, start_of}
-use Rattle.dory_client.specs.Way.{Links, Went, Turned}
+use Rattle.dory_client.specs.Way.{Links, ExchangedInTurn, RunExchanged}
 use Rattle.dory_client.proofs.Done.{CameWell, did}
 use Rattle.dory_client.proofs.Beginnings.{IsBeginning, Kind, Updates, Searches, Measures, Rests, beginning, search_begins}
 use Rattle.dory_client.proofs.Course.{Answered}
@@ -48,7 +48,7 @@ use Rattle.dory_client.proofs.Updates.{AtEnd, Grow, grow_same, grow_twice, turne
 -- ---- what is kept at the end
 
 -- what is kept at the end of a run that goes on from a phase
-kept_from : (r : Run) (k : KeptState) (frames : List (List ℕ)) (m z : Links) (o : Outcome) (p : Phase) → r.phase ≡ p → r.kept ≡ kept_at k p → Went r frames m z → ended_of r frames ≡ Some o → (run_after r frames).kept.seen ≡ (finished k o).seen
+kept_from : (r : Run) (k : KeptState) (frames : List (List ℕ)) (m z : Links) (o : Outcome) (p : Phase) → r.phase ≡ p → r.kept ≡ kept_at k p → ExchangedInTurn r frames m z → ended_of r frames ≡ Some o → (run_after r frames).kept.seen ≡ (finished k o).seen
 kept_from r k [] m z o (Updating e at) is i went ends = absurd (let none : outcome_at r.phase ≡ None = ap outcome_at is in cc)
 kept_from r k [] m z o (Measuring word lead) is i went ends = absurd (let none : outcome_at r.phase ≡ None = ap outcome_at is in cc)
 kept_from r k [] m z o (Searching q lead) is i went ends = absurd (let none : outcome_at r.phase ≡ None = ap outcome_at is in cc)
@@ -59,10 +59,10 @@ kept_from r k [] m z o (Ended x) is i went ends =
 kept_from r k (g ∷ frames) m z o (Updating e at) is i (n, turned, more) ends = kept_from (took r g) k frames n z o (took r g).phase refl (ap (λ (s : KeptState). kept_at s (took r g).phase) i) more ends
 kept_from r k (g ∷ frames) m z o (Measuring word lead) is i (n, turned, more) ends = kept_from (took r g) k frames n z o (took r g).phase refl (ap (λ (s : KeptState). kept_at s (took r g).phase) i) more ends
 kept_from r k (g ∷ frames) m z o (Searching q lead) is i (n, turned, more) ends = kept_from (took r g) k frames n z o (took r g).phase refl (ap (λ (s : KeptState). kept_at s (took r g).phase) i) more ends
-kept_from r k (g ∷ frames) m z o (Ended x) is i (n, turned, more) ends = absurd (subst (λ (p : Phase). Turned r (asks p) m n g) is turned)
+kept_from r k (g ∷ frames) m z o (Ended x) is i (n, turned, more) ends = absurd (subst (λ (p : Phase). RunExchanged r (asks p) m n g) is turned)
 
 -- a run that isn't at its end when it begins keeps what its outcome comes to
-pub kept_last : (run : Run) (frames : List (List ℕ)) (a z : Links) (o : Outcome) → outcome_at run.phase ≡ None → Went run frames a z → ended_of run frames ≡ Some o → (run_after run frames).kept.seen ≡ (finished run.kept o).seen
+pub kept_last : (run : Run) (frames : List (List ℕ)) (a z : Links) (o : Outcome) → outcome_at run.phase ≡ None → ExchangedInTurn run frames a z → ended_of run frames ≡ Some o → (run_after run frames).kept.seen ≡ (finished run.kept o).seen
 kept_last run [] a z o going went ends = absurd (cc)
 kept_last run (f ∷ frames) a z o going (m, turned, more) ends = kept_from (took run f) run.kept frames m z o (took run f).phase refl refl more ends
 
@@ -150,7 +150,7 @@ update_done k run a z e seen folder is c = by c.outcome refl c.good
           lead_seen = subst (SeenBy a.lead.folders z.lead.folders k.folder.0 k.seen) (sym last) (seen_greater (nat_lt k.seen number) a.lead.folders z.lead.folders k.folder.0 k.seen number both.1.lead (told_reaches a.lead.folders z.lead.folders k.folder.0 number e.id lead'));
           follow_seen = subst (SeenBy a.follow.folders z.follow.folders k.folder.0 k.seen) (sym last)
               (seen_greater (nat_lt k.seen number) a.follow.folders z.follow.folders k.folder.0 k.seen number both.1.follow (told_reaches a.follow.folders z.follow.folders k.folder.0 number e.id follow'));
-          confirmed = subst (λ (p : Phase). Confirms k.folder.0 p a z) (sym is) (record { number = number; by_lead = lead'; by_follow = follow'; written = subst (λ (x : Outcome). Appends a.written z.written (line_of x)) (same ∙ named) c.wrote });
+          confirmed = subst (λ (p : Phase). Confirms k.folder.0 p a z) (sym is) (record { number = number; by_lead = lead'; by_follow = follow'; written = subst (λ (x : Outcome). Appends a.written z.written (outcome_line x)) (same ∙ named) c.wrote });
         }
 
     by : (o : Outcome) → c.outcome ≡ o → IsGood c.outcome → IsDone k run a z
@@ -178,13 +178,13 @@ nothing_further k run a z g c seen confirmed = record {
 }
 
 -- a command that was done only made histories grow
-went_grows : (run : Run) (frames : List (List ℕ)) (a z : Links) → Went run frames a z → Grow a z
+went_grows : (run : Run) (frames : List (List ℕ)) (a z : Links) → ExchangedInTurn run frames a z → Grow a z
 went_grows run [] a z same = subst (Grow a) (sym same) (grow_same a)
 went_grows run (f ∷ frames) a z (m, turned, more) = grow_twice a m z (turned_grows run (asks run.phase) a m f turned) (went_grows (took run f) frames m z more)
 
 -- ---- a search that was done
 
-right_reach : (a z : Option (ℕ → Option Told)) (other : Part) (k : KeptState) (word : List ℕ) (answer : Answer) → IsRightBy a z other k word answer → Reaches a z k.folder.0 answer.version
+right_reach : (a z : Option (ℕ → Option Told)) (other : SidePart) (k : KeptState) (word : List ℕ) (answer : Answer) → IsRightBy a z other k word answer → Reaches a z k.folder.0 answer.version
 right_reach None z other k word answer r = tt
 right_reach (Some a) None other k word answer r = absurd r
 right_reach (Some a) (Some z) other k word answer r = λ x t e i. at x t (subst (λ (o : Option Told). IsRightOf (Some x) o other k word answer) i (subst (λ (o : Option Told). IsRightOf o (z k.folder.0) other k word answer) e r))
@@ -195,8 +195,8 @@ right_reach (Some a) (Some z) other k word answer r = λ x t e i. at x t (subst 
 search_done : (k : KeptState) (seed word : List ℕ) (run : Run) (a z : Scene) → IsKeptState k → run ≡ start k seed k.used word → CameWell run a z → IsDone k run a z
 search_done k seed word run a z range is c = by c.outcome refl c.good
   where
-    went : Went (start k seed k.used word) c.frames (scene_links a) (scene_links z)
-    went = subst (λ (r : Run). Went r c.frames (scene_links a) (scene_links z)) is c.went
+    went : ExchangedInTurn (start k seed k.used word) c.frames (scene_links a) (scene_links z)
+    went = subst (λ (r : Run). ExchangedInTurn r c.frames (scene_links a) (scene_links z)) is c.went
 
     ended : ended_of (start k seed k.used word) c.frames ≡ Some c.outcome
     ended = subst (λ (r : Run). ended_of r c.frames ≡ Some c.outcome) is c.ended
@@ -240,13 +240,13 @@ IsMeasured (Accepted answer) = ⊥
 IsMeasured NothingPending = ⊥
 IsMeasured (Rotated epoch) = ⊥
 
-measured_by : (run : Run) (r : Result (ℕ × ℕ) CheckFault) (frames : List (List ℕ)) (a z : Links) (o : Outcome) → Went (moved run (after_lengths run None r)) frames a z → outcome_at (run_after (moved run (after_lengths run None r)) frames).phase ≡ Some o → IsMeasured o
+measured_by : (run : Run) (r : Result (ℕ × ℕ) CheckFault) (frames : List (List ℕ)) (a z : Links) (o : Outcome) → ExchangedInTurn (moved run (after_lengths run None r)) frames a z → outcome_at (run_after (moved run (after_lengths run None r)) frames).phase ≡ Some o → IsMeasured o
 measured_by run (Err f) [] a z o went is = let same : Failed (fault.Check f) ≡ o = cc in subst IsMeasured same tt
 measured_by run (Ok n) [] a z o went is = let same : Lengths n.0 n.1 run.kept.seen ≡ o = cc in subst IsMeasured same tt
 measured_by run (Err f) (g ∷ frames) a z o went is = absurd went.1
 measured_by run (Ok n) (g ∷ frames) a z o went is = absurd went.1
 
-pub measured : (k : KeptState) (seed : List ℕ) (used : ℕ) (frames : List (List ℕ)) (a z : Links) (o : Outcome) → Went (asking k seed used (Measuring None None)) frames a z → ended_of (asking k seed used (Measuring None None)) frames ≡ Some o → IsMeasured o
+pub measured : (k : KeptState) (seed : List ℕ) (used : ℕ) (frames : List (List ℕ)) (a z : Links) (o : Outcome) → ExchangedInTurn (asking k seed used (Measuring None None)) frames a z → ended_of (asking k seed used (Measuring None None)) frames ≡ Some o → IsMeasured o
 measured k seed used [] a z o went is = absurd (cc)
 measured k seed used (f ∷ []) a z o went is = absurd (cc)
 measured k seed used (f ∷ g ∷ frames) a z o (m, first, (n, second, more)) is =
@@ -256,7 +256,7 @@ measure_done : (k : KeptState) (seed : List ℕ) (run : Run) (a z : Scene) → r
 measure_done k seed run a z seen is c = by c.outcome refl c.good
   where
     so : IsMeasured c.outcome
-    so = measured k seed k.used c.frames (scene_links a) (scene_links z) c.outcome (subst (λ (r : Run). Went r c.frames (scene_links a) (scene_links z)) is c.went) (subst (λ (r : Run). ended_of r c.frames ≡ Some c.outcome) is c.ended)
+    so = measured k seed k.used c.frames (scene_links a) (scene_links z) c.outcome (subst (λ (r : Run). ExchangedInTurn r c.frames (scene_links a) (scene_links z)) is c.went) (subst (λ (r : Run). ended_of r c.frames ≡ Some c.outcome) is c.ended)
 
     by : (o : Outcome) → c.outcome ≡ o → IsGood c.outcome → IsDone k run a z
     by (Lengths lead follow n) same good =
@@ -272,9 +272,9 @@ measure_done k seed run a z seen is c = by c.outcome refl c.good
 
 -- ---- nothing asked
 
-pub no_frames : (run : Run) (o : Outcome) (frames : List (List ℕ)) (a z : Links) → run.phase ≡ Ended o → Went run frames a z → frames ≡ []
+pub no_frames : (run : Run) (o : Outcome) (frames : List (List ℕ)) (a z : Links) → run.phase ≡ Ended o → ExchangedInTurn run frames a z → frames ≡ []
 no_frames run o [] a z is went = refl
-no_frames run o (f ∷ frames) a z is (m, turned, more) = absurd (subst (λ (p : Phase). Turned run (asks p) a m f) is turned)
+no_frames run o (f ∷ frames) a z is (m, turned, more) = absurd (subst (λ (p : Phase). RunExchanged run (asks p) a m f) is turned)
 
 rest_done : (k : KeptState) (run : Run) (a z : Scene) (o : Outcome) → run.kept.seen ≡ k.seen → run.phase ≡ Ended o → CameWell run a z → IsDone k run a z
 rest_done k run a z o seen is c =
@@ -290,20 +290,20 @@ by_kind k seed of run a z range b (Searches word named is) c = search_done k see
 by_kind k seed of run a z range b (Measures named is) c = measure_done k seed run a z b.seen is c
 by_kind k seed of run a z range b (Rests o good is) c = rest_done k run a z o b.seen is c
 
-by_start : (s : Start) (seed : List ℕ) (i i' : Input) (a z : Scene) → Loads s seed i i' a z ends.Done → DoesStart s seed i i' a z
+by_start : (s : Start) (seed : List ℕ) (i i' : Input) (a z : Scene) → Loads s seed i i' a z ends.Done → StartEffects s seed i i' a z
 by_start (Init first) seed i i' a z loads = tt
 by_start (Act t) seed i i' a z loads =
     let d = did seed t i i' a z loads in
     let b = beginning d.k seed (command_of d.k d.begins.text t) d.run d.begins.begins in
     (d.k, d.run, d.begins, by_kind d.k seed (command_of d.k d.begins.text t) d.run a z d.begins.in_range b b.kind d.came)
 
-by_line : (r : Result Line UsageFault) (seed : List ℕ) (i i' : Input) (a z : Scene) → Runs r seed i i' a z ends.Done → DoesLine r seed i i' a z
+by_line : (r : Result Line UsageFault) (seed : List ℕ) (i i' : Input) (a z : Scene) → Runs r seed i i' a z ends.Done → LineEffects r seed i i' a z
 by_line (Ok line) seed i i' a z loads = by_start (start_of line) seed i i' a z loads
 by_line (Err f) seed i i' a z (quiet, inl e) = absurd (cc)
 by_line (Err f) seed i i' a z (quiet, inr e) = absurd (cc)
 
 -- words that were done
-pub does : (words : List (List ℕ)) (seed : List ℕ) (i i' : Input) (a z : Scene) → IsRun words seed i i' a z ends.Done → Does words seed i i' a z
+pub does : (words : List (List ℕ)) (seed : List ℕ) (i i' : Input) (a z : Scene) → IsRun words seed i i' a z ends.Done → CallEffects words seed i i' a z
 does words seed i i' a z run = by_line (read_of words) seed i i' a z run
 
 -- a search that was accepted
@@ -314,10 +314,10 @@ accepted words seed i i' a z run word is =
     let same : d.run ≡ start d.k seed d.k.used word = search_begins d.k seed word d.run d.begins.begins in
     let c = d.came in
     let so : CourseOf d.k seed word (scene_links a) (scene_links z) c.outcome = course d.k seed d.k.used word c.frames (scene_links a) (scene_links z) c.outcome
-    (subst (λ (r : Run). Went r c.frames (scene_links a) (scene_links z)) same c.went) (subst (λ (r : Run). ended_of r c.frames ≡ Some c.outcome) same c.ended) in
+    (subst (λ (r : Run). ExchangedInTurn r c.frames (scene_links a) (scene_links z)) same c.went) (subst (λ (r : Run). ended_of r c.frames ≡ Some c.outcome) same c.ended) in
     (d.begins.bytes, d.k, d.begins.is_kept, d.begins.is_state, by d.k d.begins.in_range c.outcome so c.good c.wrote)
   where
-    by : (k : KeptState) → IsKeptState k → (o : Outcome) → CourseOf k seed word (scene_links a) (scene_links z) o → IsGood o → Appends a.written z.written (line_of o) → Accepts k seed word a z
+    by : (k : KeptState) → IsKeptState k → (o : Outcome) → CourseOf k seed word (scene_links a) (scene_links z) o → IsGood o → Appends a.written z.written (outcome_line o) → Accepts k seed word a z
     by k range (Accepted answer) answered good wrote = record {
       answer = answer;
       by_lead = right_lead a.lead z.lead a.follow z.follow k seed word answer range answered;

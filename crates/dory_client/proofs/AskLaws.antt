@@ -13,21 +13,21 @@ use Rattle.dory_member.specs.declared.outcome.Outcome.{Outcome}
 use Rattle.dory_member.specs.declared.phase.Phase.{Phase}
 use Rattle.dory_member.specs.declared.phase.Phase.TheVariants.{Updating, Measuring, Searching, Ended}
 use Rattle.dory_member.specs.declared.phase.Run.{Run}
-use Rattle.dory_member.specs.Course.{Ask as Asking, Put, asked_of, asks, ended_of, outcome_at, put_at, request_of, run_after, took}
+use Rattle.dory_member.specs.Course.{Ask, Put, asked_of, asks, ended_of, outcome_at, put_at, ask_request, run_after, took}
 use Rattle.dory_client.specs.declared.start.Todo.{Todo}
 use Rattle.dory_client.specs.declared.start.Start.{Start}
 use Rattle.dory_client.specs.declared.start.Start.TheVariants.{Init, Act}
 use Rattle.dory_client.specs.declared.end.ClientEnd.{ClientEnd}
 use Rattle.dory_client.specs.declared.end.ClientEnd.TheVariants as ends
 use Rattle.dory_client.specs.Asked.{AskedFrames, GrewBy, request_frame, spoke}
-use Rattle.dory_client.specs.Confirmed.{IsBegun}
-use Rattle.dory_client.specs.Ends.{FailsAs, IsKeeperEnd}
-use Rattle.dory_client.specs.Goes.{Goes, Unsaved, Broken, RanOut, Fell, Unkept, Came, scene_links}
-use Rattle.dory_client.specs.Puts.{AsksInAll, Nothing, InTurn, Asks, HasAsked, Puts, PutsLine, PutsStart, heard_by, put_to}
+use Rattle.dory_client.specs.CallEffects.{IsBegun}
+use Rattle.dory_client.specs.Ends.{AskFailsAs, IsKeeperEnd}
+use Rattle.dory_client.specs.CommandEnds.{CommandEnds, FirstSaveFailed, AskFailed, RanOut, CommandFailed, LastSaveFailed, CommandPrinted, scene_links}
+use Rattle.dory_client.specs.CallAsks.{AsksInAll, Nothing, InTurn, Asks, HasAsked, CallAsks, LineAsks, StartAsks, heard_by, put_to}
 use Rattle.dory_client.specs.Run.{IsRun, Loads, Unloaded, Loaded, Runs, StartsIn}
 use Rattle.dory_client.specs.Scene.{AskedNothing, Input, Scene}
 use Rattle.dory_client.specs.Start.{start_of}
-use Rattle.dory_client.specs.Way.{AskOver, Links, Stuck, Turned, UnansweredOver, Went}
+use Rattle.dory_client.specs.Way.{ExchangedOver, Links, Interrupted, RunExchanged, UnansweredOver, ExchangedInTurn}
 use Rattle.dory_client.proofs.Acting.{BeginsOrNot, begins_or_not}
 
 -- ---- exchanges that grow
@@ -67,7 +67,7 @@ one_put Follow Follow r puts = refl
 same_asked : (x y : Heard) → y ≡ x → AskedFrames x.exchanges y.exchanges []
 same_asked x y same = subst (λ (h : Heard). AskedFrames x.exchanges h.exchanges []) (sym same) (asked_none x.exchanges)
 
-one_asked : (s t : Side) (a n : Links) (r : Request) (frame : List ℕ) → AskOver t a n r frame → AskedFrames (heard_by s a).exchanges (heard_by s n).exchanges (frames_to s ((t, r) ∷ []))
+one_asked : (s t : Side) (a n : Links) (r : Request) (frame : List ℕ) → ExchangedOver t a n r frame → AskedFrames (heard_by s a).exchanges (heard_by s n).exchanges (frames_to s ((t, r) ∷ []))
 one_asked Lead Lead a n r frame (ask, same) = (spoke r frame ∷ [], ask.grew, refl)
 one_asked Lead Follow a n r frame (same, ask) = same_asked a.lead n.lead same
 one_asked Follow Lead a n r frame (ask, same) = same_asked a.follow n.follow same
@@ -81,18 +81,18 @@ pub record Part (s : Side) (frames : List (List ℕ)) (a z : Links) (rest : List
   pub are : frames ≡ first ++ rest
   pub asked : AskedFrames (heard_by s a).exchanges (heard_by s z).exchanges first
 
-turned_part : (s : Side) (run : Run) (o : Option Asking) (puts : List Put) (a n z : Links) (frame : List ℕ) (rest : List (List ℕ)) → Turned run o a n frame → Part s (frames_to s puts) n z rest → Part s (frames_to s (put_at run o ++ puts)) a z rest
+turned_part : (s : Side) (run : Run) (o : Option Ask) (puts : List Put) (a n z : Links) (frame : List ℕ) (rest : List (List ℕ)) → RunExchanged run o a n frame → Part s (frames_to s puts) n z rest → Part s (frames_to s (put_at run o ++ puts)) a z rest
 turned_part s run None puts a n z frame rest turned p = absurd turned
 turned_part s run (Some ask) puts a n z frame rest over p =
-    let one : List (List ℕ) = frames_to s ((ask.side, request_of run ask) ∷ []) in
+    let one : List (List ℕ) = frames_to s ((ask.side, ask_request run ask) ∷ []) in
     record {
       first = one ++ p.first;
-      are = one_put s ask.side (request_of run ask) puts ∙ ap (λ (v : List (List ℕ)). one ++ v) p.are ∙ sym (append_assoc one p.first rest);
-      asked = asked_on (heard_by s a).exchanges (heard_by s n).exchanges (heard_by s z).exchanges one p.first (one_asked s ask.side a n (request_of run ask) frame over) p.asked;
+      are = one_put s ask.side (ask_request run ask) puts ∙ ap (λ (v : List (List ℕ)). one ++ v) p.are ∙ sym (append_assoc one p.first rest);
+      asked = asked_on (heard_by s a).exchanges (heard_by s n).exchanges (heard_by s z).exchanges one p.first (one_asked s ask.side a n (ask_request run ask) frame over) p.asked;
     }
 
 -- a run that went on by these replies, and then put a part of what it puts next
-went_part : (s : Side) (run : Run) (came : List (List ℕ)) (a m z : Links) (rest : List (List ℕ)) → Went run came a m → Part s (frames_to s (put_at (run_after run came) (asks (run_after run came).phase))) m z rest → Part s (frames_to s (asked_of run came)) a z rest
+went_part : (s : Side) (run : Run) (came : List (List ℕ)) (a m z : Links) (rest : List (List ℕ)) → ExchangedInTurn run came a m → Part s (frames_to s (put_at (run_after run came) (asks (run_after run came).phase))) m z rest → Part s (frames_to s (asked_of run came)) a z rest
 went_part s run [] a m z rest same p = subst (λ (l : Links). Part s (frames_to s (put_at run (asks run.phase))) l z rest) same p
 went_part s run (f ∷ came) a m z rest (n, turned, more) p = turned_part s run (asks run.phase) (asked_of (took run f) came) a n z f rest turned (went_part s (took run f) came n m z rest more p)
 
@@ -117,9 +117,9 @@ stuck_part Follow Follow r m z (same, u) =
     let t = tried_part u.times (request_frame r) m.follow.exchanges z.follow.exchanges u.asked in
     (t.0, record { first = t.1; are = t.2; asked = t.3 })
 
-stuck_puts : (s : Side) (run : Run) (o : Option Asking) (m z : Links) (end : ClientEnd) → Stuck run o m z end → (rest : List (List ℕ)) × Part s (frames_to s (put_at run o)) m z rest
+stuck_puts : (s : Side) (run : Run) (o : Option Ask) (m z : Links) (end : ClientEnd) → Interrupted run o m z end → (rest : List (List ℕ)) × Part s (frames_to s (put_at run o)) m z rest
 stuck_puts s run None m z end stuck = absurd stuck
-stuck_puts s run (Some ask) m z end stuck = stuck_part s ask.side (request_of run ask) m z stuck.0
+stuck_puts s run (Some ask) m z end stuck = stuck_part s ask.side (ask_request run ask) m z stuck.0
 
 -- ---- ends at which something may be left to ask
 
@@ -130,11 +130,11 @@ keeper_whole : (end : ClientEnd) → IsKeeperEnd end → (rest : List (List ℕ)
 keeper_whole end (inl e) = not_whole end ends.KeeperFault e (λ h. h)
 keeper_whole end (inr e) = not_whole end ends.NoMemory e (λ h. h)
 
-link_whole : (s : Side) (end : ClientEnd) → FailsAs s end → (rest : List (List ℕ)) → HasAsked end → rest ≡ []
+link_whole : (s : Side) (end : ClientEnd) → AskFailsAs s end → (rest : List (List ℕ)) → HasAsked end → rest ≡ []
 link_whole s end (inl e) = not_whole end (ends.LinkFault s) e (λ h. h)
 link_whole s end (inr e) = not_whole end ends.NoMemory e (λ h. h)
 
-stuck_whole : (run : Run) (o : Option Asking) (m z : Links) (end : ClientEnd) → Stuck run o m z end → (rest : List (List ℕ)) → HasAsked end → rest ≡ []
+stuck_whole : (run : Run) (o : Option Ask) (m z : Links) (end : ClientEnd) → Interrupted run o m z end → (rest : List (List ℕ)) → HasAsked end → rest ≡ []
 stuck_whole run None m z end stuck = absurd stuck
 stuck_whole run (Some ask) m z end stuck = link_whole ask.side end stuck.1
 
@@ -150,14 +150,14 @@ at_end (Searching q lead) o is = absurd (cc)
 at_end (Ended x) o is = refl
 
 -- a command that came to its end has asked all
-ended_asks : (run : Run) (came : List (List ℕ)) (o : Outcome) (s : Side) (a z : Links) (end : ClientEnd) → Went run came a z → ended_of run came ≡ Some o → Asks run came s a z end
+ended_asks : (run : Run) (came : List (List ℕ)) (o : Outcome) (s : Side) (a z : Links) (end : ClientEnd) → ExchangedInTurn run came a z → ended_of run came ≡ Some o → Asks run came s a z end
 ended_asks run came o s a z end went ended =
-    let none : frames_to s (put_at (run_after run came) (asks (run_after run came).phase)) ≡ [] = ap (λ (x : Option Asking). frames_to s (put_at (run_after run came) x)) (at_end (run_after run came).phase o ended) in
+    let none : frames_to s (put_at (run_after run came) (asks (run_after run came).phase)) ≡ [] = ap (λ (x : Option Ask). frames_to s (put_at (run_after run came) x)) (at_end (run_after run came).phase o ended) in
     as_asks run came s a z end [] (went_part s run came a z z [] went (subst (λ (v : List (List ℕ)). Part s v z z []) (sym none) (none_part s [] z))) (λ has. refl)
 
-goes_asks : (t : Todo) (seed : List ℕ) (i i' : Input) (a z : Scene) (end : ClientEnd) (k : KeptState) (r : Run) → IsBegun t seed i i' a k r → Goes r a z end → AsksInAll t seed i i' a z end
-goes_asks t seed i i' a z end k r begun (Unsaved asked kept wrote is) = Nothing asked
-goes_asks t seed i i' a z end k r begun (Broken broke kept wrote) = InTurn k r broke.frames begun (λ s.
+goes_asks : (t : Todo) (seed : List ℕ) (i i' : Input) (a z : Scene) (end : ClientEnd) (k : KeptState) (r : Run) → IsBegun t seed i i' a k r → CommandEnds r a z end → AsksInAll t seed i i' a z end
+goes_asks t seed i i' a z end k r begun (FirstSaveFailed asked kept wrote is) = Nothing asked
+goes_asks t seed i i' a z end k r begun (AskFailed broke kept wrote) = InTurn k r broke.frames begun (λ s.
     let p = stuck_puts s (run_after r broke.frames) (asks (run_after r broke.frames).phase) broke.between (scene_links z) end broke.stuck in
     as_asks r broke.frames s (scene_links a) (scene_links z) end p.0 (went_part s r broke.frames (scene_links a) broke.between (scene_links z) p.0 broke.went p.1)
     (stuck_whole (run_after r broke.frames) (asks (run_after r broke.frames).phase) broke.between (scene_links z) end broke.stuck p.0))
@@ -165,9 +165,9 @@ goes_asks t seed i i' a z end k r begun (RanOut frames went kept wrote is) = InT
     let rest : List (List ℕ) = frames_to s (put_at (run_after r frames) (asks (run_after r frames).phase)) in
     as_asks r frames s (scene_links a) (scene_links z) end rest (went_part s r frames (scene_links a) (scene_links z) (scene_links z) rest went (none_part s rest (scene_links z)))
     (not_whole end ends.NoMemory is (λ h. h) rest))
-goes_asks t seed i i' a z end k r begun (Fell frames f went ended kept wrote is) = InTurn k r frames begun (λ s. ended_asks r frames _ s (scene_links a) (scene_links z) end went ended)
-goes_asks t seed i i' a z end k r begun (Unkept frames o went ended new kept wrote is) = InTurn k r frames begun (λ s. ended_asks r frames o s (scene_links a) (scene_links z) end went ended)
-goes_asks t seed i i' a z end k r begun (Came frames o went ended good kept says) = InTurn k r frames begun (λ s. ended_asks r frames o s (scene_links a) (scene_links z) end went ended)
+goes_asks t seed i i' a z end k r begun (CommandFailed frames f went ended kept wrote is) = InTurn k r frames begun (λ s. ended_asks r frames _ s (scene_links a) (scene_links z) end went ended)
+goes_asks t seed i i' a z end k r begun (LastSaveFailed frames o went ended new kept wrote is) = InTurn k r frames begun (λ s. ended_asks r frames o s (scene_links a) (scene_links z) end went ended)
+goes_asks t seed i i' a z end k r begun (CommandPrinted frames o went ended good kept says) = InTurn k r frames begun (λ s. ended_asks r frames o s (scene_links a) (scene_links z) end went ended)
 
 -- ---- a whole call
 
@@ -179,15 +179,15 @@ first_puts : (first : KeptState) (kept : Option (List ℕ)) (seed : List ℕ) (i
 first_puts first None seed i i' a z end (unread, asked, b) = asked
 first_puts first (Some bytes) seed i i' a z end (quiet, e) = quiet.1.asked
 
-start_puts : (s : Start) (seed : List ℕ) (i i' : Input) (a z : Scene) (end : ClientEnd) → Loads s seed i i' a z end → PutsStart s seed i i' a z end
+start_puts : (s : Start) (seed : List ℕ) (i i' : Input) (a z : Scene) (end : ClientEnd) → Loads s seed i i' a z end → StartAsks s seed i i' a z end
 start_puts (Init first) seed i i' a z end (Unloaded quiet is) = quiet.1.asked
 start_puts (Init first) seed i i' a z end (Loaded kept told s) = first_puts first kept seed i i' a z end s
 start_puts (Act t) seed i i' a z end loads = by_beginning t seed i i' a z end (begins_or_not t seed i i' a z end loads)
 
-line_puts : (r : Result Line UsageFault) (seed : List ℕ) (i i' : Input) (a z : Scene) (end : ClientEnd) → Runs r seed i i' a z end → PutsLine r seed i i' a z end
+line_puts : (r : Result Line UsageFault) (seed : List ℕ) (i i' : Input) (a z : Scene) (end : ClientEnd) → Runs r seed i i' a z end → LineAsks r seed i i' a z end
 line_puts (Ok line) seed i i' a z end loads = start_puts (start_of line) seed i i' a z end loads
 line_puts (Err fault) seed i i' a z end (quiet, e) = quiet.1.asked
 
 -- what a call asks
-pub puts : (words : List (List ℕ)) (seed : List ℕ) (i i' : Input) (a z : Scene) (end : ClientEnd) → IsRun words seed i i' a z end → Puts words seed i i' a z end
+pub puts : (words : List (List ℕ)) (seed : List ℕ) (i i' : Input) (a z : Scene) (end : ClientEnd) → IsRun words seed i i' a z end → CallAsks words seed i i' a z end
 puts words seed i i' a z end run = line_puts (line_of words) seed i i' a z end run

@@ -16,8 +16,8 @@ use Rattle.dory_client.specs.declared.start.Start.TheVariants.{Init, Act}
 use Rattle.dory_client.specs.declared.end.ClientEnd.{ClientEnd}
 use Rattle.dory_client.specs.declared.end.ClientEnd.TheVariants as ends
 use Rattle.dory_client.specs.Asked.{AskedFrames, request_frame}
-use Rattle.dory_client.specs.Confirmed.{IsBegun}
-use Rattle.dory_client.specs.Goes.{scene_links}
+use Rattle.dory_client.specs.CallEffects.{IsBegun}
+use Rattle.dory_client.specs.CommandEnds.{scene_links}
 use Rattle.dory_client.specs.Scene.{Input, Scene, AskedNothing}
 use Rattle.dory_client.specs.Start.{start_of}
 use Rattle.dory_client.specs.Way.{Links}
@@ -60,29 +60,29 @@ HasAsked ends.EpochEnd = ⊥
 HasAsked ends.NoMemory = ⊥
 
 -- Of a side the frames were asked that the command asks after these replies, or the first of them where it broke off.
-pub record Asks (run : Run) (came : List (List ℕ)) (side : Side) (a z : Links) (end : ClientEnd) : Type 0 where
+pub record Asks (run : Run) (came : List (List ℕ)) (side : Side) (before after : Links) (end : ClientEnd) : Type 0 where
   pub frames : List (List ℕ)
   pub rest : List (List ℕ)
   pub are : map request_frame (put_to side (asked_of run came)) ≡ frames ++ rest
-  pub asked : AskedFrames (heard_by side a).exchanges (heard_by side z).exchanges frames
+  pub asked : AskedFrames (heard_by side before).exchanges (heard_by side after).exchanges frames
   pub whole : HasAsked end → rest ≡ []
 
 -- A command asked nothing, or it began, these replies came, and each side was asked so.
-pub data AsksInAll (t : Todo) (seed : List ℕ) (i i' : Input) (a z : Scene) (end : ClientEnd) : Type 0 where
-  Nothing : AskedNothing a z → AsksInAll t seed i i' a z end
-  InTurn : (k : KeptState) (run : Run) (came : List (List ℕ)) → IsBegun t seed i i' a k run
-      → ((side : Side) → Asks run came side (scene_links a) (scene_links z) end) → AsksInAll t seed i i' a z end
+pub data AsksInAll (t : Todo) (seed : List ℕ) (input input' : Input) (before after : Scene) (end : ClientEnd) : Type 0 where
+  Nothing : AskedNothing before after → AsksInAll t seed input input' before after end
+  InTurn : (k : KeptState) (run : Run) (came : List (List ℕ)) → IsBegun t seed input input' before k run
+      → ((side : Side) → Asks run came side (scene_links before) (scene_links after) end) → AsksInAll t seed input input' before after end
 
 -- a first state is begun without asking
-abbrev pub PutsStart : Start → List ℕ → Input → Input → Scene → Scene → ClientEnd → Type 0
-PutsStart (Init first) seed i i' a z end = AskedNothing a z
-PutsStart (Act t) seed i i' a z end = AsksInAll t seed i i' a z end
+abbrev pub StartAsks : Start → List ℕ → Input → Input → Scene → Scene → ClientEnd → Type 0
+StartAsks (Init first) seed input input' before after end = AskedNothing before after
+StartAsks (Act t) seed input input' before after end = AsksInAll t seed input input' before after end
 
 -- nothing is asked for words that are no line
-abbrev pub PutsLine : Result Line UsageFault → List ℕ → Input → Input → Scene → Scene → ClientEnd → Type 0
-PutsLine (Ok line) seed i i' a z end = PutsStart (start_of line) seed i i' a z end
-PutsLine (Err fault) seed i i' a z end = AskedNothing a z
+abbrev pub LineAsks : Result Line UsageFault → List ℕ → Input → Input → Scene → Scene → ClientEnd → Type 0
+LineAsks (Ok line) seed input input' before after end = StartAsks (start_of line) seed input input' before after end
+LineAsks (Err fault) seed input input' before after end = AskedNothing before after
 
 -- what a call of these words asks
-abbrev pub Puts : List (List ℕ) → List ℕ → Input → Input → Scene → Scene → ClientEnd → Type 0
-Puts words seed i i' a z end = PutsLine (read_of words) seed i i' a z end
+abbrev pub CallAsks : List (List ℕ) → List ℕ → Input → Input → Scene → Scene → ClientEnd → Type 0
+CallAsks words seed input input' before after end = LineAsks (read_of words) seed input input' before after end
