@@ -1,3 +1,4 @@
+pub mod Asked
 pub mod Spelling
 pub mod Frame
 pub mod Reading

@@ -17,11 +17,11 @@ mod spell;
 mod staged;
 
 pub use decode::{decode_reply, decode_request};
-pub use encode::{encode_reply, encode_request};
+pub use encode::{encode_ask, encode_reply, encode_request};
 pub use fault::WireFault;
 pub use frame::whole_message;
 pub use framer::{FrameFault, Framer};
-pub use message::{Reply, Request, Want, What};
+pub use message::{Reply, Request, Want, WantRef, What};
 
 #[cfg(test)]
 mod framer_tests;

@@ -32,6 +32,30 @@ pub enum Want {
     },
 }
 
+/// What is asked of a folder, where another holds the keys or the entry.
+#[derive(Clone, Copy, Debug)]
+pub enum WantRef<'a> {
+    Latest,
+    Search {
+        version: u32,
+        shape: Shape,
+        keys: &'a Keys,
+    },
+    Which {
+        number: u32,
+    },
+    Stage {
+        entry: &'a Entry,
+    },
+    Order {
+        id: UpdateId,
+    },
+    Follow {
+        number: u32,
+        id: UpdateId,
+    },
+}
+
 #[derive(Debug, Drop)]
 pub struct Request {
     pub ask: AskId,

@@ -4,9 +4,10 @@ ghost use Rattle.std.specs.List.{flat_map};
 ghost use Rattle.std.specs.Int.{w16, to_be_bytes};
 ghost use Rattle.dory_base.specs.TagBytes.{tag_bytes};
 ghost use Rattle.dory_dpf.specs.KeyBytes.{bytes_of_key};
+ghost use Rattle.dory_wire.specs.Asked.{want_of};
 ghost use Rattle.dory_wire.specs.Spelling.{ask, change, entry, form_of_keys, four, found, id, line, packed, refusal, refusal_code, refusal_fields, role_byte, sum, want, want_kind, what, what_kind, IsFound, IsWhat};
 
-use crate::message::{Want, What};
+use crate::message::{WantRef, What};
 use dory_base::{
     AskId, Bits, Change, Entry, Found, NoMemory, Place, Refusal, Side, Sum, Tag, UpdateId,
 };
@@ -93,12 +94,12 @@ fn put_numbered(out: &mut Vec<u8>, number: u32, name: &UpdateId) -> Result<(), N
     put_id(out, name)
 }
 
-pub fn put_want(out: &mut Vec<u8>, wanted: &Want) -> Result<(), NoMemory>
-    ensures { OnOk result (out.new.items ≡ out.old.items ++ want wanted.now) }
+pub fn put_want(out: &mut Vec<u8>, wanted: &WantRef<'_>) -> Result<(), NoMemory>
+    ensures { OnOk result (out.new.items ≡ out.old.items ++ want (want_of wanted.now)) }
 {
     match wanted {
-        Want::Latest => Ok(()),
-        Want::Search {
+        WantRef::Latest => Ok(()),
+        WantRef::Search {
             version,
             shape,
             keys,
@@ -109,23 +110,23 @@ pub fn put_want(out: &mut Vec<u8>, wanted: &Want) -> Result<(), NoMemory>
             out.push(form_of(keys.items()))?;
             put_keys(out, keys.items())
         }
-        Want::Which { number } => put_u32(out, *number),
-        Want::Stage { entry } => put_entry(out, entry),
-        Want::Order { id } => put_id(out, id),
-        Want::Follow { number, id } => put_numbered(out, *number, id),
+        WantRef::Which { number } => put_u32(out, *number),
+        WantRef::Stage { entry } => put_entry(out, entry),
+        WantRef::Order { id } => put_id(out, id),
+        WantRef::Follow { number, id } => put_numbered(out, *number, id),
     }
 }
 
-pub fn kind_of_want(wanted: &Want) -> u8
-    ensures { result ≡ want_kind wanted.now }
+pub fn kind_of_want(wanted: &WantRef<'_>) -> u8
+    ensures { result ≡ want_kind (want_of wanted.now) }
 {
     match wanted {
-        Want::Latest => 1,
-        Want::Search { .. } => 2,
-        Want::Which { .. } => 3,
-        Want::Stage { .. } => 4,
-        Want::Order { .. } => 5,
-        Want::Follow { .. } => 6,
+        WantRef::Latest => 1,
+        WantRef::Search { .. } => 2,
+        WantRef::Which { .. } => 3,
+        WantRef::Stage { .. } => 4,
+        WantRef::Order { .. } => 5,
+        WantRef::Follow { .. } => 6,
     }
 }
 
