@@ -44,7 +44,7 @@ fn say_ready<O: Sink>(alloc: Global, out: &mut O, address: Address) -> Result<()
 /// The domain that a line without a fault names, with no update.
 fn begin(alloc: Global, line: &ServerLine, kernel: RowKernel) -> Result<DomainCore, ServerEnd>
     requires { setup_fault line.now.config.folders line.now.config.seats ≡ None }
-    ensures begun_folders { IfOk result (λ core. core.folders ≡ begun_folders line.now) }
+    ensures begun { IfOk result (λ core. core.folders ≡ begun_folders line.now) }
     ensures memory { IfErr result (λ end. end ≡ ServerEnd.NoMemory) }
 {
     match DomainCore::new(alloc, line.config.role, line.config.folders.items(), kernel) {
