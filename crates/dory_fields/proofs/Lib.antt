@@ -1,0 +1,5 @@
+pub mod Fields
+pub mod Many
+pub mod Unpacking
+pub mod Packing
+pub mod Words

@@ -1,0 +1,4 @@
+pub mod Bytes
+pub mod Packing
+pub mod Left
+pub mod Reading
