@@ -1,3 +1,4 @@
+pub mod Answered
 pub mod Config
 pub mod Held
 pub mod Setup

@@ -1,6 +1,7 @@
 //! The core of a domain: what it answers, and how an answer leaves it.
 ghost use Rattle.std.specs.Prelude.{◌≡◌, length, map, Some, IfOk, option_map};
 ghost use Rattle.dory_wire.specs.Spelling.{IsRequest, IsReply};
+ghost use Rattle.dory_domain.specs.Answered.{Responds};
 ghost use Rattle.dory_domain.specs.Config.{config_fault_of, IsRefusedBy};
 ghost use Rattle.dory_domain.specs.Held.{Held, IsHeld, Serves, KeptIfRefused, opened, folder_in};
 
@@ -8,7 +9,7 @@ use crate::config::{FolderConfig, OpenFault, config_fault};
 use crate::folders::Folders;
 use dory_base::{FolderId, NoMemory, Side};
 use dory_kernel::RowKernel;
-use dory_wire::{Reply, Request};
+use dory_wire::{Reply, Request, WireFault, decode_request, encode_reply};
 use std::alloc::Global;
 
 /// A domain's folders, and the kernel by which it scans them. It does nothing but answer requests.
@@ -53,6 +54,18 @@ impl DomainCore {
         Reply {
             ask: request.ask,
             what,
+        }
+    }
+
+    /// The frame that answers a message, by a step of its folder.
+    pub fn answer(&mut self, alloc: Global, message: &[u8]) -> Result<Vec<u8>, WireFault>
+        ensures { Responds self.old.folders message.now result self.new.folders }
+    {
+        let request = decode_request(alloc, message)?;
+        let reply = self.step(alloc, &request);
+        match encode_reply(alloc, &reply) {
+            Ok(frame) => Ok(frame),
+            Err(NoMemory) => Err(WireFault::NoMemory),
         }
     }
 

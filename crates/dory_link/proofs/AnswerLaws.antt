@@ -1,5 +1,5 @@
 -- A reply that was made for the request that the bytes say answers those bytes, and the folders that a core tells only grow.
-use Rattle.std.proofs.Common.{◌≡◌, ℕ, Bool, true, false, eqb, List, [], ◌∷◌, Option, Some, None, option_map, ap, sym, ◌∙◌, subst, refl, append-nil, inl, inr, ◌⊎◌, eqb-true, eq-eqb, true≢false}
+use Rattle.std.proofs.Common.{◌≡◌, ℕ, Bool, true, false, eqb, List, [], ◌∷◌, Option, Some, None, option_map, Vec, Result, Ok, Err, ap, sym, ◌∙◌, subst, refl, append-nil, inl, inr, ◌⊎◌, eqb-true, eq-eqb, true≢false}
 use Rattle.dory_base.specs.declared.ids.UpdateId.{UpdateId}
 use Rattle.dory_base.specs.declared.entry.Entry.{Entry}
 use Rattle.dory_base.specs.declared.refusal.Refusal.TheVariants.{NoMemory}
@@ -15,14 +15,20 @@ use Rattle.dory_wire.specs.declared.message.Want.{Want}
 use Rattle.dory_wire.specs.declared.message.Want.TheVariants.{Latest, Search, Which, Stage, Order, Follow}
 use Rattle.dory_wire.specs.declared.message.What.{What}
 use Rattle.dory_wire.specs.declared.message.What.TheVariants.{At, Found as Finds, Id, Staged as Staging, Committed, Refused}
-use Rattle.dory_wire.specs.Reading.{request_in, reply_in}
+use Rattle.dory_wire.specs.declared.fault.WireFault.{WireFault}
+use Rattle.dory_wire.specs.declared.fault.WireFault.TheVariants.{Kind, Body, Trailing, NoMemory as OutOfMemory}
+use Rattle.dory_wire.specs.Frame.{message_in}
+use Rattle.dory_wire.specs.Reading.{request_in, request_or_none, reply_in, if_read}
+use Rattle.dory_wire.proofs.Lengths.{reply_read_back}
 use Rattle.dory_wire.specs.Read.{read_of, IsReadAs, IsReadOf}
 use Rattle.dory_wire.specs.StepReply.{Steps, answer_of, event_of, IsFinding}
+use Rattle.dory_domain.specs.Answered.{IsAnswered, Responds}
 use Rattle.dory_domain.specs.Held.{Held, IsHeld, folder_in, in_state, folders_with, Serves, ServesBy}
 use Rattle.dory_link.specs.Told.{Told, Grown, Grows, IsReadAt, StepsOnce, IsReplyTo, IsFolderReply, IsReplyFrame}
 use Rattle.dory_link.specs.Folders.{told_of, told_folders}
 use Rattle.dory_domain.proofs.HeldLaws.{found_changed, others_changed}
 use Rattle.dory_base.specs.Dims.{Dims}
+use Rattle.std.specs.declared.alloc.Global.{Global}
 
 itself : (history : List Entry) → IsPrefix history history
 itself history = ([], sym (append-nil history))
@@ -175,3 +181,30 @@ answers folders now sent frame mine reply held asked replied same what = λ requ
     let whole : reply_in frame ≡ Some (record { ask = mine.ask; what = reply.what }) = replied ∙ ap (λ a. Some (record { ask = a; what = reply.what })) same in
     let P : Request → Type 0 = λ r. (w : What) × (reply_in frame ≡ Some (record { ask = r.ask; what = w })) × IsFolderReply (told_folders folders r.folder.0) (told_folders now r.folder.0) r.want w in
     subst P e (reply.what, whole, served (folder_in folders mine.folder.0) folders now mine.folder.0 mine.want reply.what held refl what)
+
+-- what answers the message of a frame answers the frame
+pub frame_answered : (folders now : List Held) (sent message frame : List ℕ) → message_in sent ≡ Some message → IsAnswered folders message frame now → IsReplyFrame (Some (told_folders folders)) (Some (told_folders now)) sent frame
+frame_answered folders now sent message frame whole by =
+    let request = by.0 in
+    let reply = by.1 in
+    let is = by.2 in
+    answers folders now sent frame request reply is.held (ap request_or_none whole ∙ ap if_read is.asked) (ap reply_in is.spelled ∙ reply_read_back reply is.range) is.ask is.step
+
+-- a frame whose message has an answer is that of a request
+pub frame_read : (folders now : List Held) (sent message frame : List ℕ) → message_in sent ≡ Some message → IsAnswered folders message frame now → (request : Request) × (request_in sent ≡ Some request)
+frame_read folders now sent message frame whole by = (by.0, ap request_or_none whole ∙ ap if_read by.2.asked)
+
+answered_grows : (folders now : List Held) (message frame : List ℕ) → IsAnswered folders message frame now → Grows (Some (told_folders folders)) (Some (told_folders now))
+answered_grows folders now message frame by = grows folders now by.0.folder.0 by.0.want by.1.what by.2.step
+
+stayed_grows : (folders now : List Held) → now ≡ folders → Grows (Some (told_folders folders)) (Some (told_folders now))
+stayed_grows folders now stays = subst (λ (fs : List Held). Grows (Some (told_folders folders)) (Some (told_folders fs))) (sym stays) (grows_not folders)
+
+-- whatever a domain makes of a message, its histories only grow
+pub response_grows : (folders now : List Held) (message : List ℕ) (result : Result (Vec ℕ Global) WireFault) → Responds folders message result now → Grows (Some (told_folders folders)) (Some (told_folders now))
+response_grows folders now message (Ok frame) by = answered_grows folders now message frame.items by
+response_grows folders now message (Err (Kind b)) by = stayed_grows folders now by.1
+response_grows folders now message (Err (Body at)) by = stayed_grows folders now by.1
+response_grows folders now message (Err (Trailing at)) by = stayed_grows folders now by.1
+response_grows folders now message (Err OutOfMemory) (inl stays) = stayed_grows folders now stays
+response_grows folders now message (Err OutOfMemory) (inr by) = answered_grows folders now message by.0 by.1

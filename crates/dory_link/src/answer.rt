@@ -6,7 +6,7 @@ ghost use Rattle.dory_link.specs.Told.{IsReplyFrame, Grows};
 ghost use Rattle.dory_link.specs.Folders.{told_folders};
 
 use dory_domain::DomainCore;
-use dory_wire::{WireFault, decode_request, encode_reply, whole_message};
+use dory_wire::{WireFault, whole_message};
 use std::alloc::Global;
 
 /// Why a frame isn't answered.
@@ -32,15 +32,10 @@ pub fn answer(
     let Some(message) = whole_message(request) else {
         return Err(AnswerError::NoRequest);
     };
-    let asked = match decode_request(alloc, message) {
-        Ok(asked) => asked,
+    let frame = match core.answer(alloc, message) {
+        Ok(frame) => frame,
         Err(WireFault::NoMemory) => return Err(AnswerError::NoMemory),
         Err(_) => return Err(AnswerError::NoRequest),
-    };
-    let reply = core.step(alloc, &asked);
-    let frame = match encode_reply(alloc, &reply) {
-        Ok(frame) => frame,
-        Err(_) => return Err(AnswerError::NoMemory),
     };
     match frame.as_slice().to_vec(alloc) {
         Ok(copy) => Ok((frame, copy)),

@@ -5,7 +5,7 @@ ghost use Rattle.dory_io.specs.Given.{GaveOne};
 ghost use Rattle.dory_net.specs.Serving.{Connection, Telling, IsServing, IsNextServed};
 
 use dory_io::{Failed, Port};
-use dory_session::{Domain, serve_core};
+use dory_session::{Answers, serve_core};
 use std::alloc::Global;
 use std::sync::Wait;
 
@@ -19,7 +19,7 @@ pub enum ServeEnd {
 }
 
 /// Serves the next connection to its end, whatever end that is.
-fn serve_next<D: Domain, P: Port>(alloc: Global, core: &mut D, port: &mut P) -> Result<(), Failed>
+fn serve_next<D: Answers, P: Port>(alloc: Global, core: &mut D, port: &mut P) -> Result<(), Failed>
     ensures served { IsNextServed (record { left = λ s. P.From.left s; given = λ s. P.From.given s; written = λ o. P.To.written o }) (D.folders core.old) (D.folders core.new) result }
     ensures given { GaveOne (P.given port.old) (P.given port.new) result }
     ensures cause { HasCause (P.faults port.old) (P.faults port.new) (IsErr result) }
@@ -30,7 +30,7 @@ fn serve_next<D: Domain, P: Port>(alloc: Global, core: &mut D, port: &mut P) -> 
 }
 
 /// Serves one connection after another, as many as are asked for, or for good.
-pub fn serve_port<R: Wait, D: Domain, P: Port>(
+pub fn serve_port<R: Wait, D: Answers, P: Port>(
     rt: &R,
     alloc: Global,
     core: &mut D,

@@ -1,4 +1,4 @@
 pub mod Coming
-pub mod Answers
+pub mod Answering
 pub mod Underway
 pub mod Complete

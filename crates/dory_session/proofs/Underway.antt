@@ -11,13 +11,13 @@ use Rattle.dory_io.specs.Causes.{HasCause}
 use Rattle.dory_domain.specs.Held.{Held}
 use Rattle.dory_session.specs.declared.end.How.{How}
 use Rattle.dory_session.specs.declared.end.How.TheVariants.{Ended, Cut, Length, Kind, Body, Trailing, InputFault, OutputFault, Limit, NoMemory}
-use Rattle.dory_session.specs.Answered.{IsAnswered}
+use Rattle.dory_domain.specs.Answered.{IsAnswered}
 use Rattle.dory_session.specs.Ends.{Stops, Breaks, IsEnd}
 use Rattle.dory_io.specs.Bytes.{Came}
 use Rattle.dory_session.specs.Session.{Around, around, IsUnderway, IsSession}
 use Rattle.dory_io.proofs.Coming.{none_came, more_came}
 use Rattle.dory_session.proofs.Coming.{stops_before}
-use Rattle.dory_session.proofs.Answers.{one_more_answered, frames_more, concat_more, messages_more}
+use Rattle.dory_session.proofs.Answering.{one_more_answered, frames_more, concat_more, messages_more}
 
 pub begun : (a : Around) → IsUnderway a a 0 [] [] []
 begun a = record {

@@ -8,7 +8,7 @@ use Rattle.dory_domain.specs.Held.{Held}
 use Rattle.dory_io.specs.Bytes.{IsOver}
 use Rattle.dory_session.specs.declared.end.How.{How}
 use Rattle.dory_session.specs.declared.end.How.TheVariants.{Ended, Cut, Length, Kind, Body, Trailing, InputFault, OutputFault, Limit, NoMemory}
-use Rattle.dory_session.specs.Answered.{IsAnswered}
+use Rattle.dory_domain.specs.Answered.{IsAnswered}
 
 -- why no message comes next, where `rest` came of it, and of the input `before` was left and `left` is
 abbrev pub Stops : How → List ℕ → Option (List ℕ) → Option (List ℕ) → Type 0

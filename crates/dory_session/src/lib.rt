@@ -1,7 +1,7 @@
 //! One connection to a domain: messages are read, each request is answered in order, and the first fault ends it.
 #![tactic(auto)]
 
-mod domain;
+mod answers;
 mod end;
 mod intake;
 mod reply;
@@ -9,6 +9,6 @@ mod serve;
 #[cfg(test)]
 mod tests;
 
-pub use domain::Domain;
+pub use answers::Answers;
 pub use end::{How, SessionEnd};
 pub use serve::serve_core;

@@ -4,10 +4,10 @@ ghost use Rattle.std.specs.Io.KnownBytes.{Appends};
 ghost use Rattle.dory_io.specs.Causes.{HasCause};
 ghost use Rattle.dory_session.specs.Ends.{WritesReply, end_of_fault};
 
-use crate::domain::Domain;
+use crate::answers::Answers;
 use crate::end::How;
 use dory_io::{Sink, write_all};
-use dory_wire::{WireFault, decode_request, encode_reply};
+use dory_wire::WireFault;
 use std::alloc::Global;
 
 /// The end that a fault of a message is.
@@ -23,7 +23,7 @@ fn fault_end(fault: WireFault) -> How
 }
 
 /// Writes the whole reply to a message. Nothing is written for one that is no request.
-pub fn reply_to<D: Domain, O: Sink>(
+pub fn reply_to<D: Answers, O: Sink>(
     alloc: Global,
     core: &mut D,
     message: &[u8],
@@ -32,14 +32,9 @@ pub fn reply_to<D: Domain, O: Sink>(
     ensures replies { (part : List ℕ) × Appends (O.written out.old) (O.written out.new) part × WritesReply (D.folders core.old) message.now part (D.folders core.new) result }
     ensures cause { HasCause (O.faults out.old) (O.faults out.new) (IsErrOf result How.OutputFault) }
 {
-    let request = match decode_request(alloc, message) {
-        Ok(request) => request,
-        Err(fault) => return Err(fault_end(fault)),
-    };
-    let reply = core.answer(alloc, &request);
-    let frame = match encode_reply(alloc, &reply) {
+    let frame = match core.answer(alloc, message) {
         Ok(frame) => frame,
-        Err(_) => return Err(How::NoMemory),
+        Err(fault) => return Err(fault_end(fault)),
     };
     match write_all(out, &frame) {
         Ok(()) => Ok(()),

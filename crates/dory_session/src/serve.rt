@@ -3,7 +3,7 @@ ghost use Rattle.std.specs.Prelude.{◌≡◌};
 ghost use Rattle.dory_io.specs.Causes.{HasCause, Rose};
 ghost use Rattle.dory_session.specs.Session.{around, IsSession, IsWell, EndsWell};
 
-use crate::domain::Domain;
+use crate::answers::Answers;
 use crate::end::{How, SessionEnd};
 use crate::intake::next_message;
 use crate::reply::reply_to;
@@ -16,7 +16,7 @@ const ROOM: usize = 16_384;
 
 /// Answers each request of the input by the domain, in order, up to the first fault, the end of the input, or the limit of
 /// 4,294,967,295 messages.
-pub fn serve_core<D: Domain, S: Source, O: Sink>(
+pub fn serve_core<D: Answers, S: Source, O: Sink>(
     alloc: Global,
     core: &mut D,
     input: &mut S,

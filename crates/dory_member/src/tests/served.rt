@@ -4,7 +4,7 @@ use super::members::{hand_over, save, shape};
 use crate::{Member, Next};
 use dory_base::{FolderId, Side};
 use dory_domain::{DomainCore, FolderConfig};
-use dory_wire::{decode_request, encode_reply, whole_message};
+use dory_wire::whole_message;
 use std::alloc::Global;
 
 /// The folder of the members.
@@ -19,13 +19,7 @@ pub fn config() -> FolderConfig {
 /// What a domain answers to a frame.
 pub fn answer(alloc: Global, core: &mut DomainCore, frame: &[u8]) -> Option<Vec<u8>> {
     let message = whole_message(frame)?;
-    match decode_request(alloc, message) {
-        Ok(request) => {
-            let reply = core.step(alloc, &request);
-            encode_reply(alloc, &reply).ok()
-        }
-        Err(_) => None,
-    }
+    core.answer(alloc, message).ok()
 }
 
 /// Both domains.

@@ -1,20 +1,15 @@
-use Rattle.std.proofs.Common.{rules}
-use Rattle.dory_link.proofs.AnswerLaws.{answers, grows}
+use Rattle.std.proofs.Common.{rules, Ok, Err}
+use Rattle.dory_link.proofs.AnswerLaws.{frame_answered, response_grows}
 use Rattle.dory_link.proofs.answer.answer.Goals as goal
 
-pub returns-in-Ok-to_vec-clause-answers : goal.returns-in-Ok-to_vec-clause-answers
-returns-in-Ok-to_vec-clause-answers g c =
-    answers c.args.core.now.folders c.step-reply.new.self.folders c.args.request.now c.in-Ok-encode_reply.frame.items c.in-Ok.asked c.step-reply.result
-    c.step-reply.ensures.held (search rules) c.in-Ok-encode_reply.ensures.read_back c.step-reply.ensures.ask c.step-reply.ensures.serves
+pub returns-in-Err-NoMemory-clause-grown : goal.returns-in-Err-NoMemory-clause-grown
+returns-in-Err-NoMemory-clause-grown g c = response_grows c.args.core.now.folders c.answer.new.self.folders c.in-Some.message.now (Err c.in-Err-NoMemory.field-0) c.in-Err-NoMemory.ensures
 
 pub returns-in-Ok-to_vec-clause-grown : goal.returns-in-Ok-to_vec-clause-grown
-returns-in-Ok-to_vec-clause-grown g c =
-    grows c.args.core.now.folders c.step-reply.new.self.folders c.in-Ok.asked.folder.0 c.in-Ok.asked.want c.step-reply.result.what c.step-reply.ensures.serves
+returns-in-Ok-to_vec-clause-grown g c = response_grows c.args.core.now.folders c.answer.new.self.folders c.in-Some.message.now (Ok c.in-Ok.frame) c.in-Ok.ensures
 
-pub returns-in-Err-encode_reply-clause-grown : goal.returns-in-Err-encode_reply-clause-grown
-returns-in-Err-encode_reply-clause-grown g c =
-    grows c.args.core.now.folders c.step-reply.new.self.folders c.in-Ok.asked.folder.0 c.in-Ok.asked.want c.step-reply.result.what c.step-reply.ensures.serves
+pub returns-in-Ok-to_vec-clause-answers : goal.returns-in-Ok-to_vec-clause-answers
+returns-in-Ok-to_vec-clause-answers g c = frame_answered c.args.core.now.folders c.answer.new.self.folders c.args.request.now c.in-Some.message.now c.in-Ok.frame.items (search rules) c.in-Ok.ensures
 
-pub returns-clause-grown : goal.returns-clause-grown
-returns-clause-grown g c =
-    grows c.args.core.now.folders c.step-reply.new.self.folders c.in-Ok.asked.folder.0 c.in-Ok.asked.want c.step-reply.result.what c.step-reply.ensures.serves
+pub returns-in-Err-to_vec-clause-grown : goal.returns-in-Err-to_vec-clause-grown
+returns-in-Err-to_vec-clause-grown g c = response_grows c.args.core.now.folders c.answer.new.self.folders c.in-Some.message.now (Ok c.in-Ok.frame) c.in-Ok.ensures

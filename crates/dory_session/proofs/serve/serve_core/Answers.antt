@@ -1,5 +1,5 @@
 use Rattle.std.proofs.Common.{rules, arith, inl, refl, sym, subst, ap, ◌≡◌, ◌≤◌, ℕ, List, [], Err}
-use Rattle.dory_session.specs.Answered.{IsAnswered}
+use Rattle.dory_domain.specs.Answered.{IsAnswered}
 use Rattle.dory_session.specs.Ends.{Breaks}
 use Rattle.dory_session.specs.Session.{around, IsUnderway}
 use Rattle.dory_session.proofs.Underway.{begun, at_once, stopped, broken, gone_on, at_limit, caused, uncaused, stops_not_output, breaks_not_input, limit_not_input, limit_not_output}
@@ -14,7 +14,7 @@ returns-in_default-from_elem-clause-session g c = at_once _ _ _ _ _ _ _ (begun _
 
 pub loop-answered-init : goal.loop-answered-init
 loop-answered-init g c =
-    let start = around (g.D.Domain.folders c.args.core.now) (g.S.Source.left c.args.input.now) (g.S.Source.given c.args.input.now) (g.O.Sink.written c.args.out.now) in
+    let start = around (g.D.Answers.folders c.args.core.now) (g.S.Source.left c.args.input.now) (g.S.Source.given c.args.input.now) (g.O.Sink.written c.args.out.now) in
     record {
       underway = ([], [], subst (λ (held : List ℕ). IsUnderway start start 0 held [] []) (sym c.in-Ok.ensures) (begun start));
       source = omega arith;
@@ -44,7 +44,7 @@ returns-in-Err-reply_to-clause-session g c =
     let so_far = c.loop-answered.invariant.underway in
     let next = c.in-Ok-next_message.ensures.next in
     let replies = c.in-Err-reply_to.ensures.replies in
-    let breaks = subst (λ (message : List ℕ). Breaks c.in-Err-reply_to.how (g.D.Domain.folders c.loop-answered.core) message replies.0 (g.D.Domain.folders c.reply_to.new.core)) c.deref.ensures.value replies.2 in
+    let breaks = subst (λ (message : List ℕ). Breaks c.in-Err-reply_to.how (g.D.Answers.folders c.loop-answered.core) message replies.0 (g.D.Answers.folders c.reply_to.new.core)) c.deref.ensures.value replies.2 in
     broken _ _ _ _ so_far.0 so_far.1 _ _ _ _ next.0 c.in-Ok-next_message.message.items c.next_message.new.framer replies.0 _ so_far.2 next.1 next.2.0 next.2.1 replies.1 breaks
 
 pub returns-in-Err-reply_to-clause-input_fault : goal.returns-in-Err-reply_to-clause-input_fault
@@ -65,7 +65,7 @@ loop-answered-preserved g c =
     let so_far = c.loop-answered.invariant.underway in
     let next = c.in-Ok-next_message.ensures.next in
     let replies = c.in-Ok-reply_to.ensures.replies in
-    let answered = subst (λ (message : List ℕ). IsAnswered (g.D.Domain.folders c.loop-answered.core) message replies.0 (g.D.Domain.folders c.reply_to.new.core)) c.deref.ensures.value replies.2 in
+    let answered = subst (λ (message : List ℕ). IsAnswered (g.D.Answers.folders c.loop-answered.core) message replies.0 (g.D.Answers.folders c.reply_to.new.core)) c.deref.ensures.value replies.2 in
     let read : g.S.Source.faults c.loop-answered.input ≤ g.S.Source.faults c.next_message.new.input = c.in-Ok-next_message.ensures.cause.later in
     let wrote : g.O.Sink.faults c.loop-answered.out ≤ g.O.Sink.faults c.reply_to.new.out = c.in-Ok-reply_to.ensures.cause.later in
     record {

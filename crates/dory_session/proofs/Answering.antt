@@ -1,9 +1,8 @@
 -- One more message answered after those that were.
-use Rattle.std.proofs.Common.{◌≡◌, ◌∙◌, ℕ, inl, List, [], ◌∷◌, ◌++◌, take, Option, None, Some, refl, sym, ap, subst, append_assoc, append-nil}
+use Rattle.std.proofs.Common.{◌≡◌, ◌∙◌, ℕ, List, Err, [], ◌∷◌, ◌++◌, take, Option, None, Some, refl, sym, ap, subst, append_assoc, append-nil}
 use Rattle.std.specs.Io.KnownBytes.{Appends}
 use Rattle.dory_wire.specs.declared.fault.WireFault.{WireFault}
 use Rattle.dory_wire.specs.declared.fault.WireFault.TheVariants as wire
-use Rattle.dory_wire.specs.Reading.{Fails, request_of}
 use Rattle.dory_io.specs.Output.{AppendsLess}
 use Rattle.std.specs.List.{AllByRecursion, concat}
 use Rattle.dory_wire.specs.Frame.{frame_of}
@@ -11,7 +10,8 @@ use Rattle.dory_wire.specs.Cut.{IsMessage, frames_of}
 use Rattle.dory_domain.specs.Held.{Held}
 use Rattle.dory_session.specs.declared.end.How.{How}
 use Rattle.dory_session.specs.declared.end.How.TheVariants.{OutputFault}
-use Rattle.dory_session.specs.Answered.{IsAnswered, AreAnswered}
+use Rattle.dory_domain.specs.Answered.{IsAnswered, Responds}
+use Rattle.dory_session.specs.Answered.{AreAnswered}
 use Rattle.dory_session.specs.Ends.{Breaks, IsLess, end_of_fault}
 
 pub one_more_answered : (before mid now : List Held) (messages frames : List (List ℕ)) (message frame : List ℕ) → AreAnswered before messages frames mid → IsAnswered mid message frame now → AreAnswered before (messages ++ message ∷ []) (frames ++ frame ∷ []) now
@@ -32,12 +32,12 @@ pub messages_more : (messages : List (List ℕ)) (message : List ℕ) → AllByR
 messages_more [] message all is = (is, tt)
 messages_more (m ∷ ms) message all is = (all.0, messages_more ms message all.1 is)
 
--- what a message that is no request makes of a session
-pub broken_by : (fault : WireFault) (before : List Held) (message : List ℕ) → Fails fault (request_of message) → Breaks (end_of_fault fault) before message [] before
-broken_by (wire.Kind b) before message f = (f, (refl, refl))
-broken_by (wire.Body at) before message f = (f, (refl, refl))
-broken_by (wire.Trailing at) before message f = (f, (refl, refl))
-broken_by wire.NoMemory before message f = (refl, inl refl)
+-- what a message that has no answer makes of a session
+pub broken_by : (fault : WireFault) (before : List Held) (message : List ℕ) (now : List Held) → Responds before message (Err fault) now → Breaks (end_of_fault fault) before message [] now
+broken_by (wire.Kind b) before message now r = (r.0, (refl, r.1))
+broken_by (wire.Body at) before message now r = (r.0, (refl, r.1))
+broken_by (wire.Trailing at) before message now r = (r.0, (refl, r.1))
+broken_by wire.NoMemory before message now r = (refl, r)
 
 pub no_output_fault : (fault : WireFault) → ◌≡◌ {A = How} (end_of_fault fault) OutputFault → ⊥
 no_output_fault (wire.Kind b) e = absurd cc
