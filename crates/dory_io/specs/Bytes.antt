@@ -11,10 +11,11 @@ Reads (Some before) None room result into = ⊥
 Reads (Some before) (Some now) room (Ok n) into = (take n before ≡ take n into) × (now ≡ drop n before) × ((n ≡ 0) → (room ≡ 0) ⊎ (before ≡ []))
 Reads (Some before) (Some now) room (Err e) into = now ≡ before
 
--- these bytes came of a source: they are the first of what was left, where it tells that, and they are counted
+-- these bytes came of a source: they are the first of what was left, where it tells that, and up to the last u64 the
+-- count of bytes given rose by their number
 pub record Came (left now : Option (List ℕ)) (given counted : ℕ) (bytes : List ℕ) : Type 0 where
   pub first : Consumes left now bytes
-  pub count : min (given + length bytes) (2 ^ 64 - 1) ≤ counted
+  pub count : min counted (2 ^ 64 - 1) ≡ min (given + length bytes) (2 ^ 64 - 1)
 
 -- nothing is left of an input, where it told what was left
 abbrev pub IsOver : Option (List ℕ) → Option (List ℕ) → Type 0

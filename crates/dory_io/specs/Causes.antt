@@ -1,5 +1,5 @@
 -- Counts of faults, which never fall: a failure is answered only where a count rose.
-use Rattle.std.specs.Prelude.{ℕ, ◌+◌, ◌-◌, ◌^◌, ◌≤◌, ◌==◌, min, Bool, List, Result, Ok, Err, if◌then◌else◌}
+use Rattle.std.specs.Prelude.{ℕ, ◌≡◌, ◌+◌, ◌-◌, ◌^◌, ◌≤◌, ◌==◌, min, Bool, List, Result, Ok, Err, if◌then◌else◌}
 use Rattle.std.specs.List.{list_any}
 use Rattle.dory_io.specs.declared.fails.Fails.{Fails}
 
@@ -16,10 +16,10 @@ pub record HasCause (before now : ℕ) (failed : Type 0) : Type 0 where
   pub later : before ≤ now
   pub rose : failed → Rose before now
 
--- the count of bytes given rises by those that were read, up to the last u64
+-- the count of bytes given rises by those that were read, up to the last u64, and stays where the read failed
 abbrev pub Gave : {E : Type 0} → ℕ → ℕ → Result ℕ E → Type 0
-Gave before now (Ok n) = min (before + n) (2 ^ 64 - 1) ≤ now
-Gave before now (Err e) = before ≤ now
+Gave before now (Ok n) = now ≡ min (before + n) (2 ^ 64 - 1)
+Gave before now (Err e) = now ≡ before
 
 -- the call of this number is on the list of those that are to fail
 abbrev pub is_listed : List ℕ → ℕ → Bool

@@ -18,7 +18,7 @@ pub use binder::{Binder, MemBinder};
 pub use dory_base::Failed;
 pub use fails::Fails;
 pub use keeper::{KeepError, Keeper, MemKeeper};
-pub use numbers::number;
+pub use numbers::{number, number_in_bytes};
 pub use output::write_all;
 pub use port::{MemPort, Port};
 pub use sink::{Sink, VecSink};

@@ -61,6 +61,10 @@ impl Source for VecSource {
         ensures listed { IsErr result ↔ IsTrue (is_next_listed self.old.fails) }
         ensures counts { self.new.fails ≡ after_call self.old.fails }
         ensures fills { IfOk result (λ n. n ≡ min (length self.old.bytes.items - self.old.at) (length into.old)) }
+        // It goes on by what it gave, the rest of the room stays, and a failed read changes nothing but the counts of calls.
+        ensures goes { IfOk result (λ n. (self.new.at ≡ self.old.at + n) × (drop n into.new ≡ drop n into.old)) }
+        ensures stays { IsErr result → (self.new.at ≡ self.old.at) × (into.new ≡ into.old) }
+        ensures same { self.new.bytes ≡ self.old.bytes }
     {
         if self.fails.call() {
             return Err(Failed);

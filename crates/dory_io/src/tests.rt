@@ -1,6 +1,7 @@
 //! The forms in memory at calls that are listed, at calls that are not, and where room runs out.
 use crate::{
     Address, Binder, Keeper, MemBinder, MemKeeper, MemPort, Port, Sink, Source, VecSink, VecSource,
+    number, number_in_bytes,
 };
 use std::test::Fail;
 
@@ -36,6 +37,20 @@ fn listed_calls_fail_and_leave_what_was_there(rt: HostRuntime) -> Result<(), Fai
         kept.is_ok_and(|kept| kept.is_some_and(|bytes| bytes.as_slice() == b"new".as_slice()))
     );
     Ok(())
+}
+
+#[test]
+fn numbers_are_read_of_bytes_that_are_no_text(rt: HostRuntime) {
+    assert_eq!(rt;
+        number_in_bytes(b"18446744073709551615", 0, u64::MAX),
+        Some(u64::MAX)
+    );
+    assert_eq!(rt; number_in_bytes(b"18446744073709551616", 0, u64::MAX), None);
+    assert_eq!(rt; number_in_bytes(&[b'7', 0xff], 0, u64::MAX), None);
+    assert_eq!(rt; number_in_bytes(b"", 0, u64::MAX), None);
+    assert_eq!(rt; number("256", 0, 256), Some(256));
+    assert_eq!(rt; number("256", 0, 255), None);
+    assert_eq!(rt; number("+7", 0, 255), None);
 }
 
 #[test]
