@@ -1,6 +1,6 @@
 //! Calls that are to fail, for the forms in memory.
 ghost use Rattle.std.specs.Prelude.{◌≡◌, ⊤, false, IsTrue};
-ghost use Rattle.dory_io.specs.Causes.{HasCause, one_more, is_listed, after_call};
+ghost use Rattle.dory_io.specs.Causes.{HasCause, one_more, is_listed, is_next_listed, after_call};
 
 /// Counts the calls of an object, of which those on a list are to fail, and its faults.
 #[derive(Debug, Drop)]
@@ -30,6 +30,15 @@ impl Fails {
         self.faults = self.faults.saturating_add(1);
     }
 
+    /// Counts a call, and says whether it is to fail. The fault is then still to be counted.
+    pub fn count_call(&mut self) -> bool
+        ensures value { result ≡ is_next_listed self.old }
+        ensures calls { self.new ≡ record self.old { calls = one_more self.old.calls } }
+    {
+        self.calls = self.calls.saturating_add(1);
+        self.listed.contains(&self.calls)
+    }
+
     /// Counts a call, and says whether it is to fail, which counts a fault.
     pub fn call(&mut self) -> bool
         ensures value { result ≡ is_listed self.old.listed.items (one_more self.old.calls) }
@@ -39,11 +48,10 @@ impl Fails {
         ensures cause { HasCause self.old.faults self.new.faults (IsTrue result) }
         ensures only { result ≡ false → self.new.faults ≡ self.old.faults }
     {
-        self.calls = self.calls.saturating_add(1);
-        if self.listed.contains(&self.calls) {
+        let listed = self.count_call();
+        if listed {
             self.count();
-            return true;
         }
-        false
+        listed
     }
 }
