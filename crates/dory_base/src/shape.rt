@@ -69,6 +69,7 @@ impl Shape {
     /// The number of columns, 256 to 2,048.
     pub fn columns(&self) -> usize
         ensures value { result ≡ 2 ^ self.now.depth }
+        ensures few { result ≤ 2048 }
         ensures range { IsDims self.now }
     {
         match self.depth {

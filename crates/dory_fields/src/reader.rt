@@ -1,7 +1,7 @@
 //! A reader of fields, from left to right.
-ghost use Rattle.std.specs.Prelude.{◌≡◌, ◌≤◌, ◌==◌, IfOk, OnErr, length};
+ghost use Rattle.std.specs.Prelude.{◌≡◌, ◌≢◌, ◌≤◌, ◌==◌, IfErr, IfOk, OnErr, length};
 ghost use Rattle.std.specs.Int.{w16, w32, w64, from_be_bytes, is_in_range};
-ghost use Rattle.dory_fields.specs.declared.fault.FieldFault.TheVariants.{CutShort, OutOfRange};
+ghost use Rattle.dory_fields.specs.declared.fault.FieldFault.TheVariants.{CutShort, NoMemory, OutOfRange};
 ghost use Rattle.dory_fields.specs.Reading.{Reads, bits_at, byte_at, field_at, number_at, place, tested_at};
 
 use crate::fault::FieldFault;
@@ -67,6 +67,7 @@ impl<'a> Reader<'a> {
         ensures value { Reads (λ x. x.now) result (field_at n) self.old self.new }
         ensures len { IfOk result (λ x. length x.now ≡ n) }
         ensures stays { OnErr result (self.new ≡ self.old) }
+        ensures no_memory { IfErr result (λ e. e ≢ NoMemory) }
     {
         if self.rest.len() < n {
             return Err(self.cut_short());
@@ -80,6 +81,7 @@ impl<'a> Reader<'a> {
     pub fn array<const N: usize>(&mut self) -> Result<[u8; N], FieldFault>
         ensures value { Reads (λ x. x) result (field_at N) self.old self.new }
         ensures stays { OnErr result (self.new ≡ self.old) }
+        ensures no_memory { IfErr result (λ e. e ≢ NoMemory) }
     {
         let field = self.slice(N)?;
         let mut array = [0u8; N];
@@ -93,6 +95,7 @@ impl<'a> Reader<'a> {
         ensures value { Reads (λ x. x) result (byte_at (is_in_range least most)) self.old self.new }
         ensures range { IfOk result (λ x. (least ≤ x) × (x ≤ most)) }
         ensures stays { OnErr result (self.new ≡ self.old) }
+        ensures no_memory { IfErr result (λ e. e ≢ NoMemory) }
     {
         match self.rest {
             [] => Err(self.cut_short()),
@@ -112,6 +115,7 @@ impl<'a> Reader<'a> {
     pub fn u16(&mut self) -> Result<u16, FieldFault>
         ensures value { Reads (λ x. x) result (number_at w16) self.old self.new }
         ensures stays { OnErr result (self.new ≡ self.old) }
+        ensures no_memory { IfErr result (λ e. e ≢ NoMemory) }
     {
         Ok(u16_of(self.slice(2)?))
     }
@@ -121,6 +125,7 @@ impl<'a> Reader<'a> {
     pub fn u32(&mut self) -> Result<u32, FieldFault>
         ensures value { Reads (λ x. x) result (number_at w32) self.old self.new }
         ensures stays { OnErr result (self.new ≡ self.old) }
+        ensures no_memory { IfErr result (λ e. e ≢ NoMemory) }
     {
         Ok(u32_of(self.slice(4)?))
     }
@@ -130,6 +135,7 @@ impl<'a> Reader<'a> {
     pub fn u64(&mut self) -> Result<u64, FieldFault>
         ensures value { Reads (λ x. x) result (number_at w64) self.old self.new }
         ensures stays { OnErr result (self.new ≡ self.old) }
+        ensures no_memory { IfErr result (λ e. e ≢ NoMemory) }
     {
         Ok(u64_of(self.slice(8)?))
     }
@@ -140,6 +146,7 @@ impl<'a> Reader<'a> {
         ensures value { Reads (λ x. x) result (tested_at w16 (is_in_range least most)) self.old self.new }
         ensures range { IfOk result (λ x. (least ≤ x) × (x ≤ most)) }
         ensures stays { OnErr result (self.new ≡ self.old) }
+        ensures no_memory { IfErr result (λ e. e ≢ NoMemory) }
     {
         let field = self.rest;
         let n = self.u16()?;
@@ -157,6 +164,7 @@ impl<'a> Reader<'a> {
         ensures value { Reads (λ x. x) result (tested_at w32 (is_in_range least most)) self.old self.new }
         ensures range { IfOk result (λ x. (least ≤ x) × (x ≤ most)) }
         ensures stays { OnErr result (self.new ≡ self.old) }
+        ensures no_memory { IfErr result (λ e. e ≢ NoMemory) }
     {
         let field = self.rest;
         let n = self.u32()?;
@@ -174,6 +182,7 @@ impl<'a> Reader<'a> {
         ensures value { Reads (λ x. x) result (tested_at w64 (is_in_range least most)) self.old self.new }
         ensures range { IfOk result (λ x. (least ≤ x) × (x ≤ most)) }
         ensures stays { OnErr result (self.new ≡ self.old) }
+        ensures no_memory { IfErr result (λ e. e ≢ NoMemory) }
     {
         let field = self.rest;
         let n = self.u64()?;
