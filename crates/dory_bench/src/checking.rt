@@ -6,7 +6,7 @@ use crate::frames::Frame;
 use crate::names::{ask, folder_keys, shape, update};
 use crate::run::Run;
 use crate::work::Depth;
-use dory_base::{DocId, Tag, Word};
+use dory_base::{DocId, Tag, Word, xor};
 use dory_hmac::FolderKeys;
 use dory_query::Query;
 use dory_seal::{EpochKeys, epoch_of};
@@ -27,11 +27,6 @@ struct Replies {
 /// The plain cell of a line at a probe: each 64th line has the word, and others have some of its positions.
 fn plain(line: u16, probe: u16) -> bool {
     line % 64 == 0 || line % 3 == probe % 3
-}
-
-/// One of the two, and not both.
-fn xor(a: bool, b: bool) -> bool {
-    if a { !b } else { b }
 }
 
 /// The sealed cell of a line at a probe, whose tag is added to the sum.

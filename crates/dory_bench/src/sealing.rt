@@ -1,6 +1,6 @@
 //! Sealing a row, and checking a sealed one.
 ghost use Rattle.std.specs.Prelude.{◌≡◌, ◌^◌, length, IfOk};
-ghost use Rattle.dory_seal.specs.Seal.{IsWhole};
+ghost use Rattle.dory_base.specs.History.{IsWhole};
 
 use crate::fault::Fault;
 use crate::names::{folder_keys, shape, update};

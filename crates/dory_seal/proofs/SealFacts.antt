@@ -4,7 +4,7 @@ use Rattle.std.proofs.lemmas.Bool.{cases_lt}
 use Rattle.std.proofs.lemmas.List.{length-take, get_or-take, get_or_past}
 use Rattle.std.proofs.lemmas.List.FromFn.{get_or-map-range_with_len}
 use Rattle.dory_base.specs.Dims.{Dims}
-use Rattle.dory_base.specs.History.{IsChangeOf}
+use Rattle.dory_base.specs.History.{IsChangeOf, IsWhole}
 use Rattle.dory_base.specs.Sum.{row_of, tags_of}
 use Rattle.dory_base.specs.TagBytes.{IsTagBytes, tag_number_small}
 use Rattle.dory_base.specs.Xor.{xor}
@@ -18,7 +18,7 @@ use Rattle.dory_hmac.specs.declared.folder_keys.FolderKeys.{FolderKeys}
 use Rattle.dory_hmac.proofs.Tag.{length-hmac_of_block, hmac_of_block-byte}
 use Rattle.dory_seal.specs.Epoch.{epoch_of, tag_key_of}
 use Rattle.dory_seal.specs.Message.{cell_message}
-use Rattle.dory_seal.specs.Seal.{cell_tag_of, mask_bit_of, plain_of, HasTag, IsPostOfShape, IsSealed, IsSealedChange, IsWhole}
+use Rattle.dory_seal.specs.Seal.{cell_tag_of, mask_bit_of, plain_of, HasTag, IsPostOfShape, IsSealed, IsSealedChange}
 use Rattle.dory_seal.proofs.Masks.{length-masked}
 
 -- a plain row has as many bits as there are cells
@@ -32,7 +32,7 @@ plain_of-bit keys e j low =
     get_or-map-range_with_len (λ k. xor (get_or (row_of e.change) k false) (mask_bit_of keys e.doc e.id k)) 0 (length (row_of e.change)) j j false low (omega arith)
 
 whole_change : (keys : FolderKeys) (doc : DocId) (id : UpdateId) (change : Change) → IsSealedChange keys doc id change → IsWhole change
-whole_change keys doc id (Post shape row tags) sealed = sealed.whole
+whole_change keys doc id (Post shape row tags) sealed = record { shape_is = refl; row = sealed.cells; tags_are = sealed.tagged }
 whole_change keys doc id Remove sealed = sealed
 
 -- a sealed entry has a cell and a tag for each column
@@ -42,7 +42,7 @@ sealed_is_whole keys e sealed = whole_change keys e.doc e.id e.change sealed
 whole_fits : (shape : Dims) (change : Change) → IsWhole change → IsPostOfShape shape change → IsChangeOf shape change
 whole_fits shape change whole post =
     let w = rw post.2 at whole in
-    rw post.2 (record { shape_is = refl; row = w.cells; tags_are = w.tagged })
+    rw post.2 w
 
 -- a sealed post of a shape may stand in a folder of this shape
 pub sealed_fits : (keys : FolderKeys) (shape : Dims) (e : Entry) → IsSealed keys e → IsPostOfShape shape e.change → IsChangeOf shape e.change
@@ -51,7 +51,7 @@ sealed_fits keys shape e sealed post = whole_fits shape e.change (sealed_is_whol
 tag_of_change : (keys : FolderKeys) (doc : DocId) (id : UpdateId) (change : Change) (j : ℕ) → IsSealedChange keys doc id change → j < length (row_of change)
     → HasTag keys doc id (row_of change) (tags_of change) j
 tag_of_change keys doc id (Post shape row tags) j sealed low =
-    let near : j < 2 ^ shape.depth = omega (arith, sealed.whole.cells) in
+    let near : j < 2 ^ shape.depth = omega (arith, sealed.cells) in
     sealed.each j near
 tag_of_change keys doc id Remove j sealed low = absurd (omega arith)
 

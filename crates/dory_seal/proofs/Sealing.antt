@@ -23,7 +23,8 @@ tagged_row keys doc id columns cells tags long tagged =
     let f : ℕ → ℕ = λ j. cell_tag_of keys doc id j (get_or cells j false) in
     let count : length tags ≡ length cells = ap length tagged ∙ length-map-range_with_len f 0 (length cells) in
     record {
-      whole = record { cells = long; tagged = count ∙ long };
+      cells = long;
+      tagged = count ∙ long;
       each = λ j near.
           let low : j < length cells = omega (arith, long) in
           ap (λ (ts : List ℕ). get_or ts j 0) tagged ∙ get_or-map-range_with_len f 0 (length cells) j j 0 low (omega arith);
@@ -32,7 +33,7 @@ tagged_row keys doc id columns cells tags long tagged =
 -- the tags of a sealed row are those of its cells
 pub tags_are : (keys : FolderKeys) (doc : DocId) (id : UpdateId) (columns : ℕ) (cells : List Bool) (tags : List ℕ) → IsSealedRow keys doc id columns cells tags
     → tags ≡ tags_over keys doc id columns cells
-tags_are keys doc id columns cells tags sealed = fill_by_all (λ j. cell_tag_of keys doc id j (get_or cells j false)) tags columns 0 sealed.whole.tagged sealed.each
+tags_are keys doc id columns cells tags sealed = fill_by_all (λ j. cell_tag_of keys doc id j (get_or cells j false)) tags columns 0 sealed.tagged sealed.each
 
 -- the sealed entry, written out
 abbrev pub sealed_entry : FolderKeys → Dims → UpdateId → DocId → List Bool → Entry

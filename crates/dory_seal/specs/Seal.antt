@@ -40,23 +40,14 @@ masked keys doc id row = map (λ j. xor (slice_index_or row j false) (mask_bit_o
 abbrev pub plain_of : FolderKeys → Entry → List Bool
 plain_of keys e = masked keys e.doc e.id (row_of e.change)
 
--- a row and tags of so many columns
-pub record HasCells (columns : ℕ) (row : List Bool) (tags : List ℕ) : Type 0 where
-  pub cells : length row ≡ columns
-  pub tagged : length tags ≡ columns
-
--- a cell and a tag for each column; a removal has none
-abbrev pub IsWhole : Change → Type 0
-IsWhole (Post shape row tags) = HasCells (2 ^ shape.depth) row tags
-IsWhole Remove = Unit {0}
-
 -- the tag of a column is the cell tag of its cell
 abbrev pub HasTag : FolderKeys → DocId → UpdateId → List Bool → List ℕ → ℕ → Type 0
 HasTag keys doc id row tags column = slice_index tags column ≡ cell_tag_of keys doc id column (slice_index_or row column false)
 
 -- a cell and a tag for each column, and each tag that of its cell
 pub record IsSealedRow (keys : FolderKeys) (doc : DocId) (id : UpdateId) (columns : ℕ) (row : List Bool) (tags : List ℕ) : Type 0 where
-  pub whole : HasCells columns row tags
+  pub cells : length row ≡ columns
+  pub tagged : length tags ≡ columns
   pub each : (j : ℕ) → j < columns → HasTag keys doc id row tags j
 
 -- a post of a sealed row, or a removal

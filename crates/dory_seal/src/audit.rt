@@ -1,7 +1,8 @@
 //! The check of a sealed entry by a holder of the keys.
 ghost use Rattle.std.specs.Prelude.{◌≡◌, ◌≤◌, ◌<◌, ◌+◌, ◌%◌, ◌↔◌, ℕ, false, length, slice_index, IfErr, IfNone, IfSome, IsOk};
+ghost use Rattle.dory_base.specs.History.{IsWhole};
 ghost use Rattle.dory_seal.specs.Epoch.{epoch_of};
-ghost use Rattle.dory_seal.specs.Seal.{HasTag, IsFirstBad, IsFirstBadOf, IsSealed, IsWhole};
+ghost use Rattle.dory_seal.specs.Seal.{HasTag, IsFirstBad, IsFirstBadOf, IsSealed};
 ghost use Rattle.dory_seal.specs.Runs.{IsFirstOther};
 
 use crate::cell::RUN;

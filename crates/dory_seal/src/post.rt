@@ -13,7 +13,7 @@ use crate::cell::RUN;
 use crate::epoch::epoch_of;
 use crate::epoch_keys::EpochKeys;
 use crate::mask::MaskBlock;
-use dory_base::{Bits, Change, DocId, Entry, NoMemory, Shape, Tags, UpdateId};
+use dory_base::{Bits, Change, DocId, Entry, NoMemory, Shape, Tags, UpdateId, xor};
 use dory_hmac::FolderKeys;
 use std::alloc::Global;
 
@@ -94,13 +94,6 @@ fn seal_block(cells: &mut Bits, mask: &MaskBlock, row: &Bits, from: usize)
         let column = from + i;
         cells.put(column, xor(row.get(column), mask.bit(column as u16)));
     }
-}
-
-/// One of the two, and not both.
-fn xor(a: bool, b: bool) -> bool
-    ensures { result ≡ xor a b }
-{
-    if a { !b } else { b }
 }
 
 /// The tag of each cell.

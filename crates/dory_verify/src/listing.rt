@@ -1,14 +1,13 @@
 //! The documents that an accepted pair lists.
 ghost use Rattle.std.specs.Prelude.{◌≡◌, ◌<◌, ◌/◌, ◌==◌, ℕ, true, false, length, slice_index, slice_index_or, List, [], IfOk, IsTrue, IsFalse};
 ghost use Rattle.std.specs.List.{AllByRecursion, list_any};
-ghost use Rattle.dory_base.specs.Xor.{xor};
 ghost use Rattle.dory_seal.specs.Epoch.{epoch_of};
 ghost use Rattle.dory_verify.specs.Answer.{IsRising, numbers};
 ghost use Rattle.dory_verify.specs.Listing.{crossed, plain_cell, is_line_listed, listed_from};
 ghost use Rattle.dory_wire.specs.Spelling.{IsSum};
 
 use crate::epochs::turn_to;
-use dory_base::{Bits, DocId, Docs, NoMemory, Place, Sum};
+use dory_base::{Bits, DocId, Docs, NoMemory, Place, Sum, xor};
 use dory_hmac::FolderKeys;
 use dory_seal::EpochKeys;
 use std::alloc::Global;
@@ -36,13 +35,6 @@ fn is_set(bits: &Bits, line: usize) -> bool
     ensures { result ≡ slice_index_or bits.now line false }
 {
     line < bits.len() && bits.get(line)
-}
-
-/// One of the two, and not both.
-fn xor(a: bool, b: bool) -> bool
-    ensures { result ≡ xor a b }
-{
-    if a { !b } else { b }
 }
 
 /// Whether a column before stands in this block.

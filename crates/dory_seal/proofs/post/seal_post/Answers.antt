@@ -30,8 +30,8 @@ returns-clause-sealed c = sealed c
 
 pub returns-clause-fits : goal.returns-clause-fits
 returns-clause-fits c =
-    let whole = (sealed c).sealed.whole in
-    record { shape_is = refl; row = whole.cells; tags_are = whole.tagged }
+    let row = (sealed c).sealed in
+    record { shape_is = refl; row = row.cells; tags_are = row.tagged }
 
 pub returns-clause-only : goal.returns-clause-only
 returns-clause-only c other is = sealing_is_one c.args.keys.now c.args.shape c.args.id c.args.doc c.args.row.now other _ is (sealed c)
