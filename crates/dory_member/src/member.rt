@@ -10,7 +10,7 @@ ghost use Rattle.dory_member.specs.Within.{FitsCommand, AsksNamed, RunInRange, I
 use crate::begin::begun;
 use crate::command::Command;
 use crate::frame::Frame;
-use crate::framing::{Asked, Framed, frame_of};
+use crate::framing::{Asked, frame_of};
 use crate::next::Next;
 use crate::outcome::{Fault, Outcome};
 use crate::phase::{Phase, Run};
@@ -119,6 +119,13 @@ fn asked(run: &Run, step: u32) -> Asked
     }
 }
 
+/// A phase, with the frame of what it asks.
+#[derive(Drop)]
+struct Framed {
+    phase: Phase,
+    frame: Frame,
+}
+
 /// A command that ran out of memory.
 fn out_of_memory(alloc: Global) -> Framed
     ensures phase { result.phase ≡ fails fault.NoMemory }
@@ -144,8 +151,8 @@ fn turned(alloc: Global, run: &Run, phase: Phase, reply: &[u8]) -> Framed
     let Ok(next) = phase_after(alloc, run, phase, reply) else {
         return out_of_memory(alloc);
     };
-    match frame_of(alloc, asked(run, run.step + 1), next) {
-        Ok(framed) => framed,
+    match frame_of(alloc, asked(run, run.step + 1), &next) {
+        Ok(frame) => Framed { phase: next, frame },
         Err(NoMemory) => out_of_memory(alloc),
     }
 }
@@ -176,24 +183,9 @@ fn first(alloc: Global, run: Run) -> Result<Member, Fault>
     requires { RunInRange run }
     ensures { BeginsBy result (Ok (just_begun run)) }
 {
-    let asked = asked(&run, run.step);
-    let Run {
-        kept,
-        seed,
-        serial,
-        step,
-        phase,
-    } = run;
-    match frame_of(alloc, asked, phase) {
-        Ok(Framed { phase, frame }) => {
-            let unsaved = saves_first(&phase);
-            let run = Run {
-                kept,
-                seed,
-                serial,
-                step,
-                phase,
-            };
+    match frame_of(alloc, asked(&run, run.step), &run.phase) {
+        Ok(frame) => {
+            let unsaved = saves_first(&run.phase);
             Ok(Member {
                 run,
                 frame,
