@@ -11,7 +11,7 @@ use Rattle.dory_seal.specs.Seal.{cell_tag_of, masked, IsSealingOf}
 use Rattle.dory_seal.proofs.Masks.{length-masked}
 use Rattle.dory_seal.proofs.SealFacts.{cell_tag_of-lt}
 use Rattle.dory_seal.proofs.Sealing.{sealing}
-use Rattle.dory_state.specs.Row.{columns}
+use Rattle.dory_base.specs.Dims.{column_count}
 use Rattle.dory_state.specs.Spelling.{IsKeptState, IsPending}
 use Rattle.dory_state.specs.declared.kept.Pending.{Pending}
 use Rattle.dory_state.specs.declared.kept.KeptState.{KeptState}
@@ -25,12 +25,12 @@ all_small f small (j ∷ js) = (small j, all_small f small js)
 length-cell_tags : (keys : FolderKeys) (doc : DocId) (id : UpdateId) (cells : List Bool) → length (cell_tags keys doc id cells) ≡ length cells
 length-cell_tags keys doc id cells = length-map-range_with_len (λ j. cell_tag_of keys doc id j (get_or cells j false)) 0 (length cells)
 
-change_range : (k : KeptState) (p : Pending) (r : Option (List Bool)) → IsKeptState k → IfSome r (λ row. length row ≡ columns k.shape) → IsChange (change_of k p r)
+change_range : (k : KeptState) (p : Pending) (r : Option (List Bool)) → IsKeptState k → IfSome r (λ row. length row ≡ column_count k.shape) → IsChange (change_of k p r)
 change_range k p None h fits = tt
 change_range k p (Some row) h fits =
     let keys = folder_keys k in
     let cells = masked keys p.doc (id_of k p) row in
-    let long : length cells ≡ columns k.shape = length-masked keys p.doc (id_of k p) row ∙ fits in
+    let long : length cells ≡ column_count k.shape = length-masked keys p.doc (id_of k p) row ∙ fits in
     record {
       dims = h.shape;
       cells = record { shape_is = refl; row = long; tags_are = length-cell_tags keys p.doc (id_of k p) cells ∙ long };

@@ -1,4 +1,3 @@
-pub mod Row
 pub mod Spelling
 pub mod Reading
 pub mod Texts

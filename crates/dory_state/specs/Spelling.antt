@@ -1,18 +1,10 @@
 -- The bytes that a kept state is written as, and the states that have such bytes.
 use Rattle.std.specs.Prelude.{ℕ, ◌≡◌, ◌⊎◌, ◌<◌, ◌≤◌, ◌^◌, Bool, List, [], ◌∷◌, ◌++◌, length, Option, Some, None, IfSome, codes}
-use Rattle.std.specs.Int.{w32, w64, to_be_bytes}
-use Rattle.dory_base.specs.Dims.{Dims, IsDims}
-use Rattle.dory_state.specs.Row.{columns, row_bytes}
+use Rattle.dory_base.specs.Dims.{Dims, IsDims, column_count}
+use Rattle.dory_fields.specs.Bytes.{eight, four}
+use Rattle.dory_fields.specs.Packing.{packed}
 use Rattle.dory_state.specs.declared.kept.Pending.{Pending}
 use Rattle.dory_state.specs.declared.kept.KeptState.{KeptState}
-
--- a number in four bytes, the highest first
-abbrev pub four : ℕ → List ℕ
-four n = to_be_bytes w32 n
-
--- a number in eight bytes, the highest first
-abbrev pub eight : ℕ → List ℕ
-eight n = to_be_bytes w64 n
 
 -- a post has a row, a removal has none
 abbrev pub kind : Option (List Bool) → ℕ
@@ -21,7 +13,7 @@ kind None = 2
 
 -- a post's row
 abbrev pub cells : Option (List Bool) → List ℕ
-cells (Some row) = row_bytes row
+cells (Some row) = packed row
 cells None = []
 
 -- a pending update: its kind, its serial, its document and its row, or a zero byte where nothing is pending
@@ -54,7 +46,7 @@ pub record IsPending (shape : Dims) (next : ℕ) (p : Pending) : Type 0 where
   pub serial : 1 ≤ p.serial
   pub past : p.serial < next
   pub doc : p.doc.0 < 2 ^ 32
-  pub row : IfSome p.row (λ row. length row ≡ columns shape)
+  pub row : IfSome p.row (λ row. length row ≡ column_count shape)
 
 -- the ranges of a kept state
 pub record IsKeptState (s : KeptState) : Type 0 where

@@ -2,10 +2,8 @@
 #![tactic(auto)]
 
 mod fault;
-mod field;
 mod kept;
 mod reading;
-mod row;
 mod writing;
 
 pub use fault::StateFault;

@@ -1,229 +1,203 @@
 //! The reading of a kept state, in either form.
-ghost use Rattle.std.specs.Prelude.{◌≡◌, ◌≤◌, ◌<◌, ◌^◌, Ok, IfOk, length};
+ghost use Rattle.std.specs.Prelude.{◌≡◌, ◌≤◌, ◌<◌, ◌^◌, Ok, IfOk};
+ghost use Rattle.dory_fields.specs.Reading.{Reads};
 ghost use Rattle.dory_state.specs.Spelling.{IsKeptState, Spells};
-ghost use Rattle.dory_state.specs.Reading.{Gives, counts_at, first_of, head_at, owner_at, pending_at, row_at, second_of, shape_at, state_of, update_at};
+ghost use Rattle.dory_state.specs.Reading.{Gives, counts_at, field_fault, first_at, head_at, kept, owner_at, pending_at, row_at, second_at, shape_at, state_of, update_at, whole};
 ghost use Rattle.dory_state.specs.declared.kept.KeptState.{KeptState};
 
 use crate::fault::StateFault;
-use crate::field::{ended, slice_at, u8_at, u32_at, u64_at};
 use crate::kept::{Head, KeptState, Pending};
-use crate::row::{row_size, unpacked};
 use dory_base::{Bits, DocId, FolderId, MemberId, Shape};
+use dory_fields::{FieldFault, Reader};
 use std::alloc::Global;
 
-fn key(bytes: &[u8]) -> [u8; 32]
-    requires { length bytes.now ≡ 32 }
-    ensures { result ≡ bytes.now }
-{
-    let mut key = [0u8; 32];
-    key.copy_from_slice(bytes);
-    key
-}
-
-fn shape(depth: u8, probes: u8) -> Shape
-    requires low { 8 ≤ depth }
-    requires high { depth ≤ 11 }
-    requires some { 1 ≤ probes }
-    requires few { probes ≤ 8 }
-    ensures { result ≡ record { depth = depth; probes = probes } }
-{
-    match Shape::new(depth, probes) {
-        Some(shape) => shape,
-        None => unreachable!(),
-    }
-}
-
 #[tactic(auto, unfolding(crate::specs::Reading::owner_at))]
-fn owner_in(total: usize, bytes: &[u8]) -> Result<((FolderId, MemberId), &[u8]), StateFault>
-    ensures value { Gives (λ x. (x.0, x.1.now)) result (owner_at total bytes.now) }
-    ensures range { IfOk result (λ x. (x.0.0.0 < 2 ^ 32) × (x.0.1.0 ≤ 63)) }
+fn owner_in(reader: &mut Reader<'_>) -> Result<(FolderId, MemberId), FieldFault>
+    ensures { Reads (λ x. x) result owner_at reader.old reader.new }
 {
-    let (folder, rest) = u32_at(total, 8, 0, u32::MAX, bytes)?;
-    let (member, rest) = u32_at(total, 12, 0, 63, rest)?;
-    Ok(((FolderId(folder), MemberId(member)), rest))
+    let folder = reader.u32()?;
+    let member = reader.u32_in(0, 63)?;
+    Ok((FolderId(folder), MemberId(member)))
 }
 
 #[tactic(auto, unfolding(crate::specs::Reading::shape_at))]
-fn shape_in(total: usize, bytes: &[u8]) -> Result<(Shape, &[u8]), StateFault>
-    ensures { Gives (λ x. (x.0, x.1.now)) result (shape_at total bytes.now) }
+fn shape_in(reader: &mut Reader<'_>) -> Result<Shape, FieldFault>
+    ensures { Reads (λ x. x) result shape_at reader.old reader.new }
 {
-    let (depth, rest) = u8_at(total, 16, 8, 11, bytes)?;
-    let (probes, rest) = u8_at(total, 17, 1, 8, rest)?;
-    Ok((shape(depth, probes), rest))
+    let depth = reader.u8_in(8, 11)?;
+    let probes = reader.u8_in(1, 8)?;
+    Ok(Shape::of(depth, probes))
 }
 
 #[tactic(auto, unfolding(crate::specs::Reading::counts_at))]
-fn counts_in(total: usize, latest: u64, bytes: &[u8]) -> Result<((u64, u32), &[u8]), StateFault>
-    ensures value { Gives (λ x. (x.0, x.1.now)) result (counts_at total latest bytes.now) }
-    ensures range { IfOk result (λ x. (1 ≤ x.0.0) × (x.0.0 ≤ latest) × (x.0.1 ≤ 1048576)) }
+fn counts_in(latest: u64, reader: &mut Reader<'_>) -> Result<(u64, u32), FieldFault>
+    ensures value { Reads (λ x. x) result (counts_at latest) reader.old reader.new }
+    ensures some { IfOk result (λ x. 1 ≤ x.0) }
 {
-    let (next_serial, rest) = u64_at(total, 50, 1, latest, bytes)?;
-    let (seen, rest) = u32_at(total, 58, 0, 1_048_576, rest)?;
-    Ok(((next_serial, seen), rest))
+    let next_serial = reader.u64_in(1, latest)?;
+    let seen = reader.u32_in(0, 1_048_576)?;
+    Ok((next_serial, seen))
 }
 
 #[tactic(auto, unfolding(crate::specs::Reading::head_at))]
-fn head_in(total: usize, latest: u64, bytes: &[u8]) -> Result<(Head, &[u8]), StateFault>
-    ensures value { Gives (λ x. (x.0, x.1.now)) result (head_at total latest bytes.now) }
-    ensures next { IfOk result (λ x. (1 ≤ x.0.next_serial) × (x.0.next_serial ≤ latest)) }
+fn head_in(latest: u64, reader: &mut Reader<'_>) -> Result<Head, FieldFault>
+    ensures value { Reads (λ x. x) result (head_at latest) reader.old reader.new }
+    ensures some { IfOk result (λ x. 1 ≤ x.next_serial) }
 {
-    let ((folder, member), rest) = owner_in(total, bytes)?;
-    let (shape, rest) = match shape_in(total, rest) {
-        Ok(found) => found,
-        Err(fault) => return Err(fault),
-    };
-    let (master, rest) = slice_at(total, 32, rest)?;
-    let ((next_serial, seen), rest) = counts_in(total, latest, rest)?;
-    let head = Head {
+    let (folder, member) = owner_in(reader)?;
+    let shape = shape_in(reader)?;
+    let master = reader.array::<32>()?;
+    let (next_serial, seen) = counts_in(latest, reader)?;
+    Ok(Head {
         folder,
         member,
         shape,
-        master: key(master),
+        master,
         next_serial,
         seen,
-    };
-    Ok((head, rest))
+    })
 }
 
 #[tactic(auto, unfolding(crate::specs::Reading::row_at))]
-fn row_in<'a>(
+fn row_in(
     alloc: Global,
-    total: usize,
-    shape: &Shape,
+    shape: Shape,
     kind: u8,
-    bytes: &'a [u8],
-) -> Result<(Option<Bits>, &'a [u8]), StateFault>
-    ensures { Gives (λ x. (x.0, x.1.now)) result (row_at total shape.now kind bytes.now) }
+    reader: &mut Reader<'_>,
+) -> Result<Option<Bits>, FieldFault>
+    ensures { Reads (λ x. x) result (row_at shape kind) reader.old reader.new }
 {
     if kind == 1 {
-        let (packed, rest) = slice_at(total, row_size(shape), bytes)?;
-        match unpacked(alloc, packed) {
-            Ok(row) => Ok((Some(row), rest)),
-            Err(_) => Err(StateFault::NoMemory),
-        }
+        let row = reader.bits(alloc, shape.columns())?;
+        Ok(Some(row))
     } else {
-        Ok((None, bytes))
+        Ok(None)
     }
 }
 
 #[tactic(auto, unfolding(crate::specs::Reading::update_at))]
-fn update_in<'a>(
+fn update_in(
     alloc: Global,
-    total: usize,
-    place: usize,
-    shape: &Shape,
+    shape: Shape,
     next: u64,
     kind: u8,
-    bytes: &'a [u8],
-) -> Result<(Pending, &'a [u8]), StateFault>
-    requires some { 1 ≤ next }
-    requires place { place < 100 }
-    ensures { Gives (λ x. (x.0, x.1.now)) result (update_at total place shape.now next kind bytes.now) }
+    reader: &mut Reader<'_>,
+) -> Result<Pending, FieldFault>
+    requires { 1 ≤ next }
+    ensures { Reads (λ x. x) result (update_at shape next kind) reader.old reader.new }
 {
-    let (serial, rest) = u64_at(total, place, 1, next - 1, bytes)?;
-    let (doc, rest) = u32_at(total, place + 8, 0, u32::MAX, rest)?;
-    let (row, rest) = match row_in(alloc, total, shape, kind, rest) {
-        Ok(found) => found,
-        Err(fault) => return Err(fault),
-    };
-    let doc = DocId(doc);
-    Ok((Pending { serial, doc, row }, rest))
+    let serial = reader.u64_in(1, next - 1)?;
+    let doc = DocId(reader.u32()?);
+    let row = row_in(alloc, shape, kind, reader)?;
+    Ok(Pending { serial, doc, row })
 }
 
 #[tactic(auto, unfolding(crate::specs::Reading::pending_at))]
-fn pending_in<'a>(
+fn pending_in(
     alloc: Global,
-    total: usize,
-    place: usize,
-    shape: &Shape,
+    shape: Shape,
     next: u64,
-    bytes: &'a [u8],
-) -> Result<(Option<Pending>, &'a [u8]), StateFault>
-    requires some { 1 ≤ next }
-    requires place { place < 90 }
-    ensures { Gives (λ x. (x.0, x.1.now)) result (pending_at total place shape.now next bytes.now) }
+    reader: &mut Reader<'_>,
+) -> Result<Option<Pending>, FieldFault>
+    requires { 1 ≤ next }
+    ensures { Reads (λ x. x) result (pending_at shape next) reader.old reader.new }
 {
-    let (kind, rest) = u8_at(total, place, 0, 2, bytes)?;
+    let kind = reader.u8_in(0, 2)?;
     if kind == 0 {
-        return Ok((None, rest));
+        return Ok(None);
     }
-    let (update, rest) = update_in(alloc, total, place + 1, shape, next, kind, rest)?;
-    Ok((Some(update), rest))
+    let update = update_in(alloc, shape, next, kind, reader)?;
+    Ok(Some(update))
+}
+
+/// The state of these fields.
+fn kept(head: Head, used: u32, pending: Option<Pending>) -> KeptState
+    ensures { result ≡ kept head used pending }
+{
+    let Head {
+        folder,
+        member,
+        shape,
+        master,
+        next_serial,
+        seen,
+    } = head;
+    KeptState {
+        folder,
+        member,
+        shape,
+        master,
+        next_serial,
+        seen,
+        used,
+        pending,
+    }
 }
 
 /// The fields behind the first eight bytes, in the second form.
-#[tactic(auto, unfolding(crate::specs::Reading::second_of))]
-fn second(alloc: Global, total: usize, bytes: &[u8]) -> Result<KeptState, StateFault>
-    ensures { Gives (λ x. x) result (second_of total bytes.now) }
+#[tactic(auto, unfolding(crate::specs::Reading::second_at))]
+fn second(alloc: Global, reader: &mut Reader<'_>) -> Result<KeptState, FieldFault>
+    ensures { Reads (λ x. x) result second_at reader.old reader.new }
 {
-    let (head, rest) = match head_in(total, u64::MAX, bytes) {
-        Ok(found) => found,
-        Err(fault) => return Err(fault),
-    };
-    let (used, rest) = u32_at(total, 62, 0, 65_536, rest)?;
-    let (pending, rest) = pending_in(alloc, total, 66, &head.shape, head.next_serial, rest)?;
-    ended(total, rest)?;
-    Ok(KeptState {
-        folder: head.folder,
-        member: head.member,
-        shape: head.shape,
-        master: head.master,
-        next_serial: head.next_serial,
-        seen: head.seen,
-        used,
-        pending,
-    })
+    let head = head_in(u64::MAX, reader)?;
+    let used = reader.u32_in(0, 65_536)?;
+    let pending = pending_in(alloc, head.shape, head.next_serial, reader)?;
+    Ok(kept(head, used, pending))
 }
 
 /// The fields behind the first eight bytes, in the first form.
-#[tactic(auto, unfolding(crate::specs::Reading::first_of))]
-fn first(alloc: Global, total: usize, bytes: &[u8]) -> Result<KeptState, StateFault>
-    ensures { Gives (λ x. x) result (first_of total bytes.now) }
+#[tactic(auto, unfolding(crate::specs::Reading::first_at))]
+fn first(alloc: Global, reader: &mut Reader<'_>) -> Result<KeptState, FieldFault>
+    ensures { Reads (λ x. x) result first_at reader.old reader.new }
 {
-    let (head, rest) = match head_in(total, 72_057_594_037_927_936, bytes) {
-        Ok(found) => found,
-        Err(fault) => return Err(fault),
-    };
-    let (pending, rest) = pending_in(alloc, total, 62, &head.shape, head.next_serial, rest)?;
-    ended(total, rest)?;
-    Ok(KeptState {
-        folder: head.folder,
-        member: head.member,
-        shape: head.shape,
-        master: head.master,
-        next_serial: head.next_serial,
-        seen: head.seen,
-        used: 0,
-        pending,
-    })
+    let head = head_in(72_057_594_037_927_936, reader)?;
+    let pending = pending_in(alloc, head.shape, head.next_serial, reader)?;
+    Ok(kept(head, 0, pending))
+}
+
+/// The fault that a field's fault is of bytes that are so many in all.
+fn field_fault(total: usize, fault: FieldFault) -> StateFault
+    ensures { result ≡ field_fault total fault }
+{
+    match fault {
+        FieldFault::CutShort { .. } => StateFault::Length { got: total },
+        FieldFault::OutOfRange { at } => StateFault::Field { at },
+        FieldFault::NoMemory => StateFault::NoMemory,
+    }
 }
 
 #[tactic(auto, unfolding(crate::specs::Reading::state_of))]
 fn state_in(alloc: Global, bytes: &[u8]) -> Result<KeptState, StateFault>
-    ensures { Gives (λ x. x) result (state_of bytes.now) }
+    ensures { Gives result (state_of bytes.now) }
 {
-    if bytes.len() < 8 {
+    let total = bytes.len();
+    let mut reader = Reader::new(bytes);
+    let Ok(name) = reader.slice(8) else {
         return Err(StateFault::Header);
-    }
-    let (front, rest) = bytes.split_at(8);
-    if front == b"dorystt2".as_slice() {
-        second(alloc, bytes.len(), rest)
-    } else if front == b"dorystt1".as_slice() {
-        first(alloc, bytes.len(), rest)
+    };
+    let read = if name == b"dorystt2".as_slice() {
+        second(alloc, &mut reader)
+    } else if name == b"dorystt1".as_slice() {
+        first(alloc, &mut reader)
     } else {
-        Err(StateFault::Header)
+        return Err(StateFault::Header);
+    };
+    match read {
+        Ok(state) if reader.is_empty() => Ok(state),
+        Ok(_) => Err(StateFault::Length { got: total }),
+        Err(fault) => Err(field_fault(total, fault)),
     }
 }
 
 /// The state that the bytes are, in either form.
 pub fn read_state(alloc: Global, bytes: &[u8]) -> Result<KeptState, StateFault>
     // The state, or the first fault from the left.
-    ensures exact { Gives (λ x. x) result (state_of bytes.now) }
+    ensures exact { Gives result (state_of bytes.now) }
     ensures range { IfOk result IsKeptState }
     // What is read is spelled so, each byte of it.
     ensures only { IfOk result (Spells bytes.now) }
     // What is spelled so is read, unless memory runs out.
-    ensures every { (s : KeptState) → IsKeptState s → Spells bytes.now s → Gives (λ x. x) result (Ok s) }
+    ensures every { (s : KeptState) → IsKeptState s → Spells bytes.now s → Gives result (Ok s) }
 {
     state_in(alloc, bytes)
 }

@@ -1,19 +1,19 @@
 //! The writing of a kept state, always in the second form.
 ghost use Rattle.std.specs.Prelude.{◌≡◌, ◌++◌, Ok, OnOk, IfOk};
-ghost use Rattle.dory_state.specs.Spelling.{IsKeptState, eight, four, head, pending as pending_bytes, spelling_of_state};
+ghost use Rattle.dory_fields.specs.Bytes.{eight, four};
+ghost use Rattle.dory_state.specs.Spelling.{IsKeptState, head, pending as pending_bytes, spelling_of_state};
 ghost use Rattle.dory_state.specs.Reading.{state_of};
 
 use crate::kept::{KeptState, Pending};
-use crate::row::put_row;
 use dory_base::NoMemory;
+use dory_fields::{put_bits, put_u32, put_u64};
 use std::alloc::Global;
 
 fn put_name(out: &mut Vec<u8>, update: &Pending) -> Result<(), NoMemory>
     ensures { OnOk result (out.new.items ≡ out.old.items ++ (eight update.now.serial ++ four update.now.doc.0)) }
 {
-    out.extend_from_slice(&update.serial.to_be_bytes())?;
-    out.extend_from_slice(&update.doc.0.to_be_bytes())?;
-    Ok(())
+    put_u64(out, update.serial)?;
+    put_u32(out, update.doc.0)
 }
 
 fn put_pending(out: &mut Vec<u8>, pending: &Option<Pending>) -> Result<(), NoMemory>
@@ -25,7 +25,7 @@ fn put_pending(out: &mut Vec<u8>, pending: &Option<Pending>) -> Result<(), NoMem
             Some(row) => {
                 out.push(1)?;
                 put_name(out, update)?;
-                put_row(out, row)?;
+                put_bits(out, row)?;
             }
             None => {
                 out.push(2)?;
@@ -39,14 +39,13 @@ fn put_pending(out: &mut Vec<u8>, pending: &Option<Pending>) -> Result<(), NoMem
 fn put_head(out: &mut Vec<u8>, state: &KeptState) -> Result<(), NoMemory>
     ensures { OnOk result (out.new.items ≡ out.old.items ++ head state.now) }
 {
-    out.extend_from_slice(&state.folder.0.to_be_bytes())?;
-    out.extend_from_slice(&state.member.0.to_be_bytes())?;
+    put_u32(out, state.folder.0)?;
+    put_u32(out, state.member.0)?;
     out.push(state.shape.depth())?;
     out.push(state.shape.probes())?;
     out.extend_from_slice(&state.master)?;
-    out.extend_from_slice(&state.next_serial.to_be_bytes())?;
-    out.extend_from_slice(&state.seen.to_be_bytes())?;
-    Ok(())
+    put_u64(out, state.next_serial)?;
+    put_u32(out, state.seen)
 }
 
 fn spelled(alloc: Global, state: &KeptState) -> Result<Vec<u8>, NoMemory>
@@ -55,7 +54,7 @@ fn spelled(alloc: Global, state: &KeptState) -> Result<Vec<u8>, NoMemory>
     let mut out = Vec::new(alloc);
     out.extend_from_slice(b"dorystt2")?;
     put_head(&mut out, state)?;
-    out.extend_from_slice(&state.used.to_be_bytes())?;
+    put_u32(&mut out, state.used)?;
     put_pending(&mut out, &state.pending)?;
     Ok(out)
 }

@@ -10,4 +10,4 @@ pub returns-clause-only : goal.returns-clause-only
 returns-clause-only c = spelled c.args.bytes.now c.state_in.result (all_taken_by c.args.bytes.now c.state_in.result (λ i. omega (arith, c.type_inv.bytes i)) c.state_in.ensures)
 
 pub returns-clause-every : goal.returns-clause-every
-returns-clause-every c = λ s is spells. subst (Gives (λ x. x) c.state_in.result) (state_again c.args.bytes.now s is spells) c.state_in.ensures
+returns-clause-every c = λ s is spells. subst (Gives c.state_in.result) (state_again c.args.bytes.now s is spells) c.state_in.ensures
