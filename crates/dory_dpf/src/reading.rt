@@ -49,8 +49,8 @@ fn read_key(form: u8, depth: u8, bytes: &[u8]) -> Result<Key, KeyFault>
     }
 }
 
-/// How many corrections a key has.
-fn levels_of(form: u8, depth: u8) -> usize
+/// How many corrections a key of a form and a depth has.
+pub fn levels_of(form: u8, depth: u8) -> usize
     requires { (8 ≤ depth) × (depth ≤ 11) }
     ensures value { result ≡ levels_of form depth }
     ensures few { result ≤ 11 }

@@ -36,6 +36,13 @@ impl<'a> Reader<'a> {
         }
     }
 
+    /// These bytes, with which so many bytes in all end.
+    pub fn within(total: usize, rest: &'a [u8]) -> Reader<'a>
+        ensures { result ≡ record { total = total; rest = rest.now } }
+    {
+        Reader { total, rest }
+    }
+
     /// How many bytes were taken: the place of the next field.
     pub fn place(&self) -> usize
         ensures { result ≡ place self.now.total self.now.rest }

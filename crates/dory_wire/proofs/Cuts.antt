@@ -5,13 +5,13 @@ use Rattle.std.specs.List.{AllByRecursion}
 use Rattle.std.proofs.lemmas.Bool.{lt-ltb, le-ltb, le-leb, leb-true, ltb-true, ltb-false}
 use Rattle.std.proofs.lemmas.List.{take_at, drop_at, length-append, length-take, take-append-le, drop-append-le}
 use Rattle.std.proofs.lemmas.Nat.{be_bytes_4, from_be_bytes-to_be_bytes_4}
+use Rattle.dory_fields.specs.Bytes.{IsBytes}
+use Rattle.dory_fields.proofs.Fields.{IsBytes-take, both_true}
 use Rattle.dory_wire.specs.Frame.{frame_of, is_length, length_in}
 use Rattle.dory_wire.specs.Cut.{IsMessage, frames_of, front_of, Cut, with_message, with_messages, cut_by, cut_most, cut_of, TakesOut, IsCutting, IsCutInto, GoesOn}
 use Rattle.dory_wire.specs.declared.framer.FrameFault.{FrameFault}
 use Rattle.dory_wire.specs.declared.framer.FrameFault.TheVariants.{Length, NoMemory}
 use Rattle.std.specs.declared.alloc.Global.{Global}
-use Rattle.dory_wire.proofs.Fields.{IsBytes, IsBytes-take}
-use Rattle.dory_wire.proofs.Ranges.{both_true}
 
 -- what is so where a message stands at the front
 pub record Stands (bytes message more : List ℕ) : Type 0 where

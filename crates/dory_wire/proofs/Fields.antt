@@ -1,152 +1,18 @@
--- A field that is read is the field that was written, and what was written is read again.
-use Rattle.std.proofs.Common.{◌≡◌, ℕ, suc, ◌+◌, ◌^◌, ◌<◌, ◌≤◌, Bool, true, false, cond, ltb, leb, List, [], ◌∷◌, ◌++◌, length, get_or, take, drop, Result, Ok, Err, refl, sym, ap, subst, ◌∙◌, append_assoc, arith, inl, inr}
-use Rattle.std.specs.Int.{Width, w16, w32, w64, byte_len, from_be_bytes, to_be_bytes}
-use Rattle.std.proofs.lemmas.Bool.{cases_lt, ltb-false, le-ltb, leb-true, le-leb}
-use Rattle.std.proofs.lemmas.List.{take_at, drop_at, take-append-drop, length-append, length-take, length-drop, get_or-drop, get_or-take, get_or_past}
-use Rattle.std.proofs.lemmas.Nat.{be_bytes_2, be_bytes_4, be_bytes_8, from_be_bytes-to_be_bytes_2, from_be_bytes-to_be_bytes_4, from_be_bytes-to_be_bytes_8}
+-- An ask, an update's id and a tag: what is read is what was written, and what was written is read again.
+use Rattle.std.proofs.Common.{◌≡◌, ℕ, ◌+◌, ◌*◌, ◌/◌, ◌%◌, ◌^◌, ◌<◌, true, leb, List, ◌++◌, length, take, drop, Ok, refl, sym, ap, subst, ◌∙◌, append_assoc, arith}
+use mathlib.Core.Path.{ap₂}
+use Rattle.std.specs.Int.{w32, w64, from_be_bytes, to_be_bytes}
+use Rattle.std.proofs.lemmas.Bool.{leb-true, le-leb}
+use Rattle.std.proofs.lemmas.List.{take-append-drop, length-take, length-drop}
+use Rattle.std.proofs.lemmas.Nat.{from_be_bytes-to_be_bytes_8}
+use Rattle.dory_base.specs.TagBytes.{tag_number, tag_bytes, tag_bytes-tag_number, tag_number_small, IsTagBytes}
 use Rattle.dory_base.specs.declared.ids.AskId.{AskId}
 use Rattle.dory_base.specs.declared.ids.UpdateId.{UpdateId}
-use Rattle.dory_wire.specs.declared.fault.WireFault.{WireFault}
-use Rattle.dory_wire.specs.declared.fault.WireFault.TheVariants.{Body}
-use Rattle.dory_wire.specs.Spelling.{four, ask, id, IsAsk, IsId}
-use Rattle.dory_wire.specs.Reading.{◌>>=◌, place, field_at, ranged, number_at, tested_at, byte_at, ask_at, id_at}
-
-abbrev pub IsBytes : List ℕ → Type 0
-IsBytes bytes = (i : ℕ) → get_or bytes i 0 < 256
-
-pub IsBytes-drop : (n : ℕ) (bytes : List ℕ) → IsBytes bytes → IsBytes (drop n bytes)
-IsBytes-drop n bytes h i = rw get_or-drop (h (n + i))
-
-pub IsBytes-take : (n : ℕ) (bytes : List ℕ) → IsBytes bytes → IsBytes (take n bytes)
-IsBytes-take n bytes h i =
-    elim (cases_lt i n) [
-      | inl lt ↦ rw (get_or-take n bytes i 0 lt) (h i)
-      | inr le ↦ rw (get_or_past (take n bytes) i 0 (omega (arith, length-take n bytes))) (omega arith)
-    ]
-
-pub IsBytes-rest : (b : ℕ) (bytes : List ℕ) → IsBytes (b ∷ bytes) → IsBytes bytes
-IsBytes-rest b bytes h i = h (suc i)
-
--- the value of a step that did not fail
-pub bind_ok : {A B : Type 0} (r : Result A WireFault) (f : A → Result B WireFault) (y : B) → (r >>= f) ≡ Ok y → (x : A) × (r ≡ Ok x) × (f x ≡ Ok y)
-bind_ok (Ok x) f y e = (x, refl, e)
-bind_ok (Err d) f y e = absurd cc
-
--- a test that did not fail
-pub guard_ok : {A : Type 0} (b : Bool) (d : WireFault) (x y : A) → cond b (Err d) (Ok x) ≡ Ok y → (b ≡ false) × (x ≡ y)
-guard_ok true d x y e = absurd cc
-guard_ok false d x y e = (refl, cc)
-
--- a test that was met
-pub guard_met : {A : Type 0} (b : Bool) (d : WireFault) (x y : A) → cond b (Ok x) (Err d) ≡ Ok y → (b ≡ true) × (x ≡ y)
-guard_met true d x y e = (refl, cc)
-guard_met false d x y e = absurd cc
-
-abbrev done : {A : Type 0} → A → Result A WireFault
-done x = Ok x
-
-pub ok_is : {A : Type 0} (x y : A) → done x ≡ done y → x ≡ y
-ok_is x y e = cc
-
-pub ranged_ok : {A : Type 0} (total : ℕ) (bytes : List ℕ) (b : Bool) (x y : A) → ranged total bytes b x ≡ Ok y → (b ≡ true) × (x ≡ y)
-ranged_ok total bytes true x y e = (refl, cc)
-ranged_ok total bytes false x y e = absurd cc
-
--- what a reader took from the front
-pub record Takes (bytes text rest : List ℕ) : Type 0 where
-  pub parts : bytes ≡ text ++ rest
-  pub rest_fits : IsBytes rest
-
-pub Takes-then : (a x b y c : List ℕ) → Takes a x b → Takes b y c → Takes a (x ++ y) c
-Takes-then a x b y c p q = record { parts = p.parts ∙ ap (λ (t : List ℕ). x ++ t) q.parts ∙ sym (append_assoc x y c); rest_fits = q.rest_fits }
-
--- ---- fields of so many bytes
-
-pub field_takes : (n total : ℕ) (bytes text rest : List ℕ) → IsBytes bytes → field_at n total bytes ≡ Ok (text, rest) → Takes bytes text rest × (length text ≡ n) × IsBytes text
-field_takes n total bytes text rest fits e =
-    let g = guard_ok (ltb (length bytes) n) (Body (place total bytes)) (take n bytes, drop n bytes) (text, rest) e in
-    let long : n ≤ length bytes = ltb-false _ _ g.0 in
-    let first : Takes bytes (take n bytes) (drop n bytes) = record { parts = sym (take-append-drop n bytes); rest_fits = IsBytes-drop n bytes fits } in
-    let len : length (take n bytes) ≡ n = omega (arith, length-take n bytes) in
-    subst (λ (p : List ℕ × List ℕ). Takes bytes p.0 p.1 × (length p.0 ≡ n) × IsBytes p.0) g.1 (first, len, IsBytes-take n bytes fits)
-
-pub field_again : (n total : ℕ) (text rest : List ℕ) → length text ≡ n → field_at n total (text ++ rest) ≡ Ok (text, rest)
-field_again n total text rest len =
-    let long : ltb (length (text ++ rest)) n ≡ false = le-ltb _ _ (omega (arith, length-append text rest)) in
-    rw (long, take_at text rest n len, drop_at text rest n len) refl
-
--- ---- numbers
-
-pub record IsWide (w : Width) (limit : ℕ) : Type 0 where
-  pub len : (n : ℕ) → length (to_be_bytes w n) ≡ byte_len w
-  pub back : (bytes : List ℕ) → length bytes ≡ byte_len w → IsBytes bytes → to_be_bytes w (from_be_bytes w bytes) ≡ bytes
-  pub again : (n : ℕ) → n < limit → from_be_bytes w (to_be_bytes w n) ≡ n
-  pub below : (bytes : List ℕ) → IsBytes bytes → from_be_bytes w bytes < limit
-
-pub wide16 : IsWide w16 (2 ^ 16)
-wide16 = record {
-  len = λ n. refl;
-  back = λ bytes len fits. be_bytes_2 bytes _ len fits refl;
-  again = λ n lt. from_be_bytes-to_be_bytes_2 n lt;
-  below = λ bytes fits. omega (arith, fits 0, fits 1);
-}
-
-pub wide32 : IsWide w32 (2 ^ 32)
-wide32 = record {
-  len = λ n. refl;
-  back = λ bytes len fits. be_bytes_4 bytes _ len fits refl;
-  again = λ n lt. from_be_bytes-to_be_bytes_4 n lt;
-  below = λ bytes fits. omega (arith, fits 0, fits 1, fits 2, fits 3);
-}
-
-pub wide64 : IsWide w64 (2 ^ 64)
-wide64 = record {
-  len = λ n. refl;
-  back = λ bytes len fits. be_bytes_8 bytes _ len fits refl;
-  again = λ n lt. from_be_bytes-to_be_bytes_8 n lt;
-  below = λ bytes fits. omega (arith, fits 0, fits 1, fits 2, fits 3, fits 4, fits 5, fits 6, fits 7);
-}
-
-pub number_takes : (w : Width) (limit : ℕ) (wide : IsWide w limit) (total : ℕ) (bytes : List ℕ) (n : ℕ) (rest : List ℕ) → IsBytes bytes → number_at w total bytes ≡ Ok (n, rest) → Takes bytes (to_be_bytes w n) rest × (n < limit)
-unfolding number_at
-number_takes w limit wide total bytes n rest fits e =
-    let g = guard_ok (ltb (length bytes) (byte_len w)) (Body (place total bytes)) (from_be_bytes w (take (byte_len w) bytes), drop (byte_len w) bytes) (n, rest) e in
-    let long : byte_len w ≤ length bytes = ltb-false _ _ g.0 in
-    let n-is : from_be_bytes w (take (byte_len w) bytes) ≡ n = ap (λ (p : ℕ × List ℕ). p.0) g.1 in
-    let rest-is : drop (byte_len w) bytes ≡ rest = ap (λ (p : ℕ × List ℕ). p.1) g.1 in
-    let front : to_be_bytes w n ≡ take (byte_len w) bytes = rw (← n-is) (wide.back (take (byte_len w) bytes) (omega (arith, length-take (byte_len w) bytes)) (IsBytes-take (byte_len w) bytes fits)) in
-    (record { parts = rw (front, ← rest-is) (sym (take-append-drop (byte_len w) bytes)); rest_fits = rw (← rest-is) (IsBytes-drop (byte_len w) bytes fits) }, rw (← n-is) (wide.below (take (byte_len w) bytes) (IsBytes-take (byte_len w) bytes fits)))
-
-pub number_again : (w : Width) (limit : ℕ) (wide : IsWide w limit) (total n : ℕ) (rest : List ℕ) → n < limit → number_at w total (to_be_bytes w n ++ rest) ≡ Ok (n, rest)
-unfolding number_at
-number_again w limit wide total n rest lt =
-    let len = wide.len n in
-    let long : ltb (length (to_be_bytes w n ++ rest)) (byte_len w) ≡ false = le-ltb _ _ (omega (arith, length-append (to_be_bytes w n) rest)) in
-    rw (long, take_at (to_be_bytes w n) rest (byte_len w) len, drop_at (to_be_bytes w n) rest (byte_len w) len, wide.again n lt) refl
-
-pub tested_takes : (w : Width) (limit : ℕ) (wide : IsWide w limit) (test : ℕ → Bool) (total : ℕ) (bytes : List ℕ) (n : ℕ) (rest : List ℕ) → IsBytes bytes → tested_at w test total bytes ≡ Ok (n, rest)
-    → Takes bytes (to_be_bytes w n) rest × (n < limit) × (test n ≡ true)
-unfolding tested_at
-tested_takes w limit wide test total bytes n rest fits e =
-    let b = bind_ok (number_at w total bytes) (λ x. ranged total bytes (test x.0) x) (n, rest) e in
-    let g = ranged_ok total bytes (test b.0.0) b.0 (n, rest) b.2 in
-    let t = number_takes w limit wide total bytes b.0.0 b.0.1 fits b.1 in
-    subst (λ (p : ℕ × List ℕ). Takes bytes (to_be_bytes w p.0) p.1 × (p.0 < limit) × (test p.0 ≡ true)) g.1 (t.0, t.1, g.0)
-
-pub tested_again : (w : Width) (limit : ℕ) (wide : IsWide w limit) (test : ℕ → Bool) (total n : ℕ) (rest : List ℕ) → n < limit → test n ≡ true → tested_at w test total (to_be_bytes w n ++ rest) ≡ Ok (n, rest)
-unfolding tested_at
-tested_again w limit wide test total n rest lt met = rw (number_again w limit wide total n rest lt) (rw met refl)
-
-pub byte_takes : (test : ℕ → Bool) (total : ℕ) (bytes : List ℕ) (n : ℕ) (rest : List ℕ) → IsBytes bytes → byte_at test total bytes ≡ Ok (n, rest) → Takes bytes (n ∷ []) rest × (test n ≡ true)
-unfolding byte_at
-byte_takes test total [] n rest fits e = absurd cc
-byte_takes test total (b ∷ bytes) n rest fits e =
-    let g = ranged_ok total (b ∷ bytes) (test b) (b, bytes) (n, rest) e in
-    subst (λ (p : ℕ × List ℕ). Takes (b ∷ bytes) (p.0 ∷ []) p.1 × (test p.0 ≡ true)) g.1 (record { parts = refl; rest_fits = IsBytes-rest b bytes fits }, g.0)
-
-pub byte_again : (test : ℕ → Bool) (total n : ℕ) (rest : List ℕ) → test n ≡ true → byte_at test total (n ∷ rest) ≡ Ok (n, rest)
-unfolding byte_at
-byte_again test total n rest met = rw met refl
+use Rattle.dory_fields.specs.Bytes.{IsBytes, four}
+use Rattle.dory_fields.specs.Reading.{field_at, ranged}
+use Rattle.dory_fields.proofs.Fields.{IsBytes-drop, IsBytes-take, bind_ok, ok_is, ranged_ok, Takes, field_takes, field_again, wide32, wide64}
+use Rattle.dory_wire.specs.Spelling.{ask, id, IsAsk, IsId}
+use Rattle.dory_wire.specs.Reading.{ask_at, id_at, tag_at}
 
 -- ---- an ask
 
@@ -214,3 +80,35 @@ id_again total u rest is =
     let two : from_be_bytes w64 (drop 4 (id u)) ≡ u.serial = wide64.again u.serial is.serial in
     let met : leb 1 (from_be_bytes w64 (drop 4 (id u))) ≡ true = rw two (le-leb 1 u.serial is.some) in
     rw (field_again 12 total (id u) rest (length-id u)) (rw met (λ i. Ok (record { member = record { 0 = one i }; serial = two i }, rest)))
+
+-- ---- a tag
+
+pub length-tag_bytes : (n : ℕ) → length (tag_bytes n) ≡ 16
+unfolding tag_bytes
+length-tag_bytes n = refl
+
+halves : (n : ℕ) → n < 2 ^ 128 → (n / 2 ^ 64 < 2 ^ 64) × (n % 2 ^ 64 < 2 ^ 64) × (n / 2 ^ 64 * 2 ^ 64 + n % 2 ^ 64 ≡ n)
+halves n h = (omega arith, omega arith, omega arith)
+
+tag_again : (n : ℕ) → n < 2 ^ 128 → tag_number (tag_bytes n) ≡ n
+unfolding tag_number tag_bytes
+tag_again n h =
+    let parts = halves n h in
+    ap₂ (λ (x y : ℕ). x * 2 ^ 64 + y) (from_be_bytes-to_be_bytes_8 (n / 2 ^ 64) parts.0) (from_be_bytes-to_be_bytes_8 (n % 2 ^ 64) parts.1) ∙ parts.2
+
+-- a number of sixteen bytes
+abbrev pub IsTag : ℕ → Type 0
+IsTag t = t < 2 ^ 128
+
+pub tag_takes : (total : ℕ) (bytes : List ℕ) (x : ℕ × List ℕ) → IsBytes bytes → tag_at total bytes ≡ Ok x → Takes bytes (tag_bytes x.0) x.1 × IsTag x.0
+unfolding tag_at
+tag_takes total bytes x fits e =
+    let a = bind_ok (field_at 16 total bytes) (λ tag. Ok (tag_number tag.0, tag.1)) x e in
+    let t = field_takes 16 total bytes a.0.0 a.0.1 fits a.1 in
+    let are : IsTagBytes a.0.0 = record { sixteen = t.1; small = t.2 } in
+    subst (λ (y : ℕ × List ℕ). Takes bytes (tag_bytes y.0) y.1 × IsTag y.0) (ok_is (tag_number a.0.0, a.0.1) x a.2)
+    (subst (λ (y : List ℕ). Takes bytes y a.0.1) (sym (tag_bytes-tag_number a.0.0 are)) t.0, tag_number_small a.0.0 are)
+
+pub tag_read_again : (total t : ℕ) (rest : List ℕ) → IsTag t → tag_at total (tag_bytes t ++ rest) ≡ Ok (t, rest)
+unfolding tag_at
+tag_read_again total t rest is = rw (field_again 16 total (tag_bytes t) rest (length-tag_bytes t)) (λ i. Ok (tag_again t is i, rest))

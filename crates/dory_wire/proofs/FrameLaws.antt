@@ -4,9 +4,9 @@ use Rattle.std.specs.Int.{w32, to_be_bytes, from_be_bytes}
 use Rattle.std.proofs.lemmas.Bool.{le-ltb, le-leb, leb-true, ltb-false, eqb-true, eq-eqb}
 use Rattle.std.proofs.lemmas.List.{take_at, drop_at, length-append, length-take}
 use Rattle.std.proofs.lemmas.Nat.{be_bytes_4, from_be_bytes-to_be_bytes_4}
+use Rattle.dory_fields.specs.Bytes.{IsBytes}
+use Rattle.dory_fields.proofs.Fields.{IsBytes-take, both_true}
 use Rattle.dory_wire.specs.Frame.{frame_of, is_length, length_in, message_in}
-use Rattle.dory_wire.proofs.Fields.{IsBytes, IsBytes-take}
-use Rattle.dory_wire.proofs.Ranges.{both_true}
 
 -- the message of a frame
 pub message_in_frame : (m : List ℕ) → 1 ≤ length m → length m ≤ 1048576 → message_in (frame_of m) ≡ Some m

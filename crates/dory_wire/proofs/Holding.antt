@@ -1,94 +1,56 @@
 -- What a version holds: its sums and its lines are read as they are spelled.
-use Rattle.std.proofs.Common.{◌≡◌, ℕ, zero, suc, ◌+◌, ◌*◌, ◌/◌, ◌%◌, ◌^◌, ◌<◌, ◌≤◌, List, [], ◌∷◌, ◌++◌, length, Result, Ok, refl, sym, ap, subst, ◌∙◌, append_assoc, arith}
-use mathlib.Core.Path.{ap₂}
+use Rattle.std.proofs.Common.{◌≡◌, ℕ, ◌^◌, ◌≤◌, List, [], ◌∷◌, ◌++◌, length, Ok, refl, sym, ap, subst, ◌∙◌, append_assoc, arith}
 use Rattle.std.specs.List.{flat_map, AllByRecursion}
 use Rattle.std.specs.Int.{w16, w32, to_be_bytes}
-use Rattle.std.proofs.lemmas.Bool.{leb-true, le-leb}
-use Rattle.std.proofs.lemmas.List.Concat.{flat_map-cons}
-use Rattle.std.proofs.lemmas.Nat.{from_be_bytes-to_be_bytes_8}
-use Rattle.dory_base.specs.TagBytes.{tag_number, tag_bytes, tag_bytes-tag_number, tag_number_small, IsTagBytes}
+use Rattle.dory_base.specs.TagBytes.{tag_bytes}
 use Rattle.dory_base.specs.declared.found.Place.{Place}
 use Rattle.dory_base.specs.declared.found.Sum.{Sum}
 use Rattle.dory_base.specs.declared.found.Found.{Found}
-use Rattle.dory_wire.specs.declared.fault.WireFault.{WireFault}
-use Rattle.dory_wire.specs.Spelling.{four, packed, line, sum, found, IsSum, IsFound}
-use Rattle.dory_wire.specs.Reading.{◌>>=◌, field_at, tested_at, byte_at, bits_at, lines_at, sum_at, sums_at, found_at, is_count, is_lines, is_few}
-use Rattle.dory_wire.proofs.Fields.{IsBytes, bind_ok, ok_is, Takes, Takes-then, wide16, wide32, field_takes, field_again, tested_takes, tested_again, byte_takes, byte_again}
+use Rattle.dory_fields.specs.Bytes.{IsBytes, four}
+use Rattle.dory_fields.specs.Packing.{packed}
+use Rattle.dory_fields.specs.Reading.{◌>>=◌, Read, tested_at, byte_at, bits_at, many_at}
+use Rattle.dory_fields.proofs.Fields.{bind_ok, ok_is, in_range, range_met, Takes, Takes-then, wide16, wide32, tested_takes, tested_again, byte_takes, byte_again}
+use Rattle.dory_fields.proofs.Many.{many_take, many_again}
+use Rattle.dory_fields.proofs.Packing.{bits_take, bits_again}
+use Rattle.dory_wire.specs.Spelling.{line, sum, found, IsSum, IsFound}
+use Rattle.dory_wire.specs.Reading.{lines_at, sum_at, found_at, tag_at, is_count, is_lines, is_few}
+use Rattle.dory_wire.proofs.Fields.{tag_takes, tag_read_again}
 use Rattle.dory_wire.proofs.Lines.{IsLeast, rises_increase, increase_rises, lines_take, lines_again}
-use Rattle.dory_wire.proofs.Packing.{bits_take, bits_again}
-
-pub length-tag_bytes : (n : ℕ) → length (tag_bytes n) ≡ 16
-unfolding tag_bytes
-length-tag_bytes n = refl
-
-halves : (n : ℕ) → n < 2 ^ 128 → (n / 2 ^ 64 < 2 ^ 64) × (n % 2 ^ 64 < 2 ^ 64) × (n / 2 ^ 64 * 2 ^ 64 + n % 2 ^ 64 ≡ n)
-halves n h = (omega arith, omega arith, omega arith)
-
-pub tag_again : (n : ℕ) → n < 2 ^ 128 → tag_number (tag_bytes n) ≡ n
-unfolding tag_number tag_bytes
-tag_again n h =
-    let parts = halves n h in
-    ap₂ (λ (x y : ℕ). x * 2 ^ 64 + y) (from_be_bytes-to_be_bytes_8 (n / 2 ^ 64) parts.0) (from_be_bytes-to_be_bytes_8 (n % 2 ^ 64) parts.1) ∙ parts.2
 
 pub sum_takes : (lines total : ℕ) (bytes : List ℕ) (x : Sum × List ℕ) → IsBytes bytes → sum_at lines total bytes ≡ Ok x → Takes bytes (sum x.0) x.1 × IsSum lines x.0
 unfolding sum_at
 sum_takes lines total bytes x fits e =
-    let a = bind_ok (bits_at lines total bytes) (λ bits. field_at 16 total bits.1 >>= λ tag. Ok (record { bits = bits.0; tag = tag_number tag.0 }, tag.1)) x e in
-    let b = bind_ok (field_at 16 total a.0.1) (λ tag. Ok (record { bits = a.0.0; tag = tag_number tag.0 }, tag.1)) x a.2 in
+    let a = bind_ok (bits_at lines total bytes) (λ bits. tag_at total bits.1 >>= λ tag. Ok (record { bits = bits.0; tag = tag.0 }, tag.1)) x e in
+    let b = bind_ok (tag_at total a.0.1) (λ tag. Ok (record { bits = a.0.0; tag = tag.0 }, tag.1)) x a.2 in
     let t0 = bits_take lines total bytes a.0 fits a.1 in
-    let t1 = field_takes 16 total a.0.1 b.0.0 b.0.1 t0.0.rest_fits b.1 in
-    let are : IsTagBytes b.0.0 = record { sixteen = t1.1; small = t1.2 } in
-    let text : tag_bytes (tag_number b.0.0) ≡ b.0.0 = tag_bytes-tag_number b.0.0 are in
-    let both = Takes-then bytes (packed a.0.0) a.0.1 b.0.0 b.0.1 t0.0 t1.0 in
-    let made : Sum = record { bits = a.0.0; tag = tag_number b.0.0 } in
-    subst (λ (y : Sum × List ℕ). Takes bytes (sum y.0) y.1 × IsSum lines y.0) (ok_is (made, b.0.1) x b.2)
-    (subst (λ (y : List ℕ). Takes bytes (packed a.0.0 ++ y) b.0.1) (sym text) both, record { bits = t0.1; tag = tag_number_small b.0.0 are })
+    let t1 = tag_takes total a.0.1 b.0 t0.0.rest_fits b.1 in
+    let both = Takes-then bytes (packed a.0.0) a.0.1 (tag_bytes b.0.0) b.0.1 t0.0 t1.0 in
+    let made : Sum = record { bits = a.0.0; tag = b.0.0 } in
+    subst (λ (y : Sum × List ℕ). Takes bytes (sum y.0) y.1 × IsSum lines y.0) (ok_is (made, b.0.1) x b.2) (both, record { bits = t0.1; tag = t1.1 })
 
 pub sum_again : (lines total : ℕ) (s : Sum) (rest : List ℕ) → IsSum lines s → sum_at lines total (sum s ++ rest) ≡ Ok (s, rest)
 unfolding sum_at
 sum_again lines total s rest is =
     let regrouped : sum s ++ rest ≡ packed s.bits ++ (tag_bytes s.tag ++ rest) = append_assoc (packed s.bits) (tag_bytes s.tag) rest in
-    ap (sum_at lines total) regrouped ∙ rw (bits_again lines total s.bits (tag_bytes s.tag ++ rest) is.bits, field_again 16 total (tag_bytes s.tag) rest (length-tag_bytes s.tag)) (λ i. Ok (record { bits = s.bits; tag = tag_again s.tag is.tag i }, rest))
-
-pub sums_take : (n lines total : ℕ) (bytes : List ℕ) (x : List Sum × List ℕ) → IsBytes bytes → sums_at n lines total bytes ≡ Ok x
-    → Takes bytes (flat_map sum x.0) x.1 × (length x.0 ≡ n) × AllByRecursion (IsSum lines) x.0
-unfolding sums_at
-sums_take zero lines total bytes x fits e =
-    subst (λ (y : List Sum × List ℕ). Takes bytes (flat_map sum y.0) y.1 × (length y.0 ≡ 0) × AllByRecursion (IsSum lines) y.0) (ok_is ([], bytes) x e) (record { parts = refl; rest_fits = fits }, refl, tt)
-sums_take (suc n) lines total bytes x fits e =
-    let a = bind_ok (sum_at lines total bytes) (λ first. sums_at n lines total first.1 >>= λ more. Ok (first.0 ∷ more.0, more.1)) x e in
-    let b = bind_ok (sums_at n lines total a.0.1) (λ more. Ok (a.0.0 ∷ more.0, more.1)) x a.2 in
-    let first = sum_takes lines total bytes a.0 fits a.1 in
-    let second = sums_take n lines total a.0.1 b.0 first.0.rest_fits b.1 in
-    let both = Takes-then bytes (sum a.0.0) a.0.1 (flat_map sum b.0.0) b.0.1 first.0 second.0 in
-    let made : List Sum × List ℕ = (a.0.0 ∷ b.0.0, b.0.1) in
-    subst (λ (y : List Sum × List ℕ). Takes bytes (flat_map sum y.0) y.1 × (length y.0 ≡ suc n) × AllByRecursion (IsSum lines) y.0) (ok_is made x b.2)
-    (rw flat_map-cons both, ap suc second.1, (first.1, second.2))
-
-pub sums_again : (lines total : ℕ) (ss : List Sum) (rest : List ℕ) → AllByRecursion (IsSum lines) ss → sums_at (length ss) lines total (flat_map sum ss ++ rest) ≡ Ok (ss, rest)
-unfolding sums_at
-sums_again lines total [] rest are = refl
-sums_again lines total (s ∷ ss) rest are =
-    let regrouped : flat_map sum (s ∷ ss) ++ rest ≡ sum s ++ (flat_map sum ss ++ rest) = ap (λ (x : List ℕ). x ++ rest) (flat_map-cons sum s ss) ∙ append_assoc (sum s) (flat_map sum ss) rest in
-    ap (sums_at (suc (length ss)) lines total) regrouped ∙ rw (sum_again lines total s (flat_map sum ss ++ rest) are.0, sums_again lines total ss rest are.1) refl
+    ap (sum_at lines total) regrouped ∙ rw (bits_again lines total s.bits (tag_bytes s.tag ++ rest) is.bits, tag_read_again total s.tag rest is.tag) refl
 
 -- the parts of a found, from left to right
 regroup : (a b c : List ℕ) (n : ℕ) (d rest : List ℕ) → (a ++ b ++ c ++ n ∷ d) ++ rest ≡ a ++ (b ++ (c ++ (n ∷ (d ++ rest))))
 regroup a b c n d rest = simp append_assoc
 
-abbrev after_sums : (version count : ℕ) → List Place → List Sum × List ℕ → Result (Found × List ℕ) WireFault
+abbrev after_sums : (version count : ℕ) → List Place → List Sum × List ℕ → Read Found
 after_sums version count lines sums = Ok (record { version = version; manifest = lines; sums = sums.0 }, sums.1)
 
-abbrev after_probes : ℕ → (version count : ℕ) → List Place → ℕ × List ℕ → Result (Found × List ℕ) WireFault
-after_probes total version count lines probes = sums_at probes.0 count total probes.1 >>= λ sums. after_sums version count lines sums
+abbrev after_probes : ℕ → (version count : ℕ) → List Place → ℕ × List ℕ → Read Found
+after_probes total version count lines probes = many_at (sum_at count) probes.0 total probes.1 >>= λ sums. after_sums version count lines sums
 
-abbrev after_lines : ℕ → (version count : ℕ) → List Place × List ℕ → Result (Found × List ℕ) WireFault
+abbrev after_lines : ℕ → (version count : ℕ) → List Place × List ℕ → Read Found
 after_lines total version count lines = byte_at is_few total lines.1 >>= λ probes. after_probes total version count lines.0 probes
 
-abbrev after_count : ℕ → ℕ → ℕ × List ℕ → Result (Found × List ℕ) WireFault
+abbrev after_count : ℕ → ℕ → ℕ × List ℕ → Read Found
 after_count total version count = lines_at count.0 0 total count.1 >>= λ lines. after_lines total version count.0 lines
 
-abbrev after_version : ℕ → ℕ × List ℕ → Result (Found × List ℕ) WireFault
+abbrev after_version : ℕ → ℕ × List ℕ → Read Found
 after_version total version = tested_at w16 is_lines total version.1 >>= λ count. after_count total version.0 count
 
 pub found_takes : (total : ℕ) (bytes : List ℕ) (x : Found × List ℕ) → IsBytes bytes → found_at total bytes ≡ Ok x → Takes bytes (found x.0) x.1 × IsFound x.0
@@ -98,12 +60,12 @@ found_takes total bytes x fits e =
     let b = bind_ok (tested_at w16 is_lines total a.0.1) (after_count total a.0.0) x a.2 in
     let c = bind_ok (lines_at b.0.0 0 total b.0.1) (after_lines total a.0.0 b.0.0) x b.2 in
     let d = bind_ok (byte_at is_few total c.0.1) (after_probes total a.0.0 b.0.0 c.0.0) x c.2 in
-    let s = bind_ok (sums_at d.0.0 b.0.0 total d.0.1) (after_sums a.0.0 b.0.0 c.0.0) x d.2 in
+    let s = bind_ok (many_at (sum_at b.0.0) d.0.0 total d.0.1) (after_sums a.0.0 b.0.0 c.0.0) x d.2 in
     let t0 = tested_takes w32 (2 ^ 32) wide32 is_count total bytes a.0.0 a.0.1 fits a.1 in
     let t1 = tested_takes w16 (2 ^ 16) wide16 is_lines total a.0.1 b.0.0 b.0.1 t0.0.rest_fits b.1 in
     let t2 = lines_take b.0.0 0 total b.0.1 c.0 t1.0.rest_fits c.1 in
     let t3 = byte_takes is_few total c.0.1 d.0.0 d.0.1 t2.0.rest_fits d.1 in
-    let t4 = sums_take d.0.0 b.0.0 total d.0.1 s.0 t3.0.rest_fits s.1 in
+    let t4 = many_take (sum_at b.0.0) sum (IsSum b.0.0) (sum_takes b.0.0) d.0.0 total d.0.1 s.0 t3.0.rest_fits s.1 in
     let p1 = Takes-then bytes (four a.0.0) a.0.1 (to_be_bytes w16 b.0.0) b.0.1 t0.0 t1.0 in
     let p2 = Takes-then bytes (four a.0.0 ++ to_be_bytes w16 b.0.0) b.0.1 (flat_map line c.0.0) c.0.1 p1 t2.0 in
     let p3 = Takes-then c.0.1 (d.0.0 ∷ []) d.0.1 (flat_map sum s.0.0) s.0.1 t3.0 t4.0 in
@@ -112,11 +74,11 @@ found_takes total bytes x fits e =
     let text : four a.0.0 ++ to_be_bytes w16 b.0.0 ++ flat_map line c.0.0 ++ d.0.0 ∷ flat_map sum s.0.0 ≡ found made =
     (λ i. four a.0.0 ++ to_be_bytes w16 (sym t2.1 i) ++ flat_map line c.0.0 ++ (sym t4.1 i) ∷ flat_map sum s.0.0) in
     let is : IsFound made = record {
-      version = leb-true a.0.0 1048576 t0.2;
+      version = (in_range 0 1048576 a.0.0 t0.2).1;
       lines = t2.2;
       rising = rises_increase 0 c.0.0 t2.3;
-      many = subst (λ (k : ℕ). k ≤ 4096) (sym t2.1) (leb-true b.0.0 4096 t1.2);
-      probes = subst (λ (k : ℕ). k ≤ 8) (sym t4.1) (leb-true d.0.0 8 t3.1);
+      many = subst (λ (k : ℕ). k ≤ 4096) (sym t2.1) (in_range 0 4096 b.0.0 t1.2).1;
+      probes = subst (λ (k : ℕ). k ≤ 8) (sym t4.1) (in_range 0 8 d.0.0 t3.1).1;
       sums = subst (λ (k : ℕ). AllByRecursion (IsSum k) s.0.0) (sym t2.1) t4.2;
     } in
     subst (λ (y : Found × List ℕ). Takes bytes (found y.0) y.1 × IsFound y.0) (ok_is (made, s.0.1) x s.2) (subst (λ (y : List ℕ). Takes bytes y s.0.1) text p4, is)
@@ -132,10 +94,10 @@ found_again total f rest is =
     let r2 = length f.sums ∷ r3 in
     let r1 = flat_map line f.manifest ++ r2 in
     let r0 = to_be_bytes w16 (length f.manifest) ++ r1 in
-    let version = tested_again w32 (2 ^ 32) wide32 is_count total f.version r0 (omega (arith, is.version)) (le-leb f.version 1048576 is.version) in
-    let count = tested_again w16 (2 ^ 16) wide16 is_lines total (length f.manifest) r1 (omega (arith, is.many)) (le-leb (length f.manifest) 4096 is.many) in
+    let version = tested_again w32 (2 ^ 32) wide32 is_count total f.version r0 (omega (arith, is.version)) (range_met 0 1048576 f.version (omega arith) is.version) in
+    let count = tested_again w16 (2 ^ 16) wide16 is_lines total (length f.manifest) r1 (omega (arith, is.many)) (range_met 0 4096 (length f.manifest) (omega arith) is.many) in
     let lines = lines_again 0 total f.manifest r2 is.lines (increase_rises 0 f.manifest (from_zero f.manifest) is.rising) in
-    let probes = byte_again is_few total (length f.sums) r3 (le-leb (length f.sums) 8 is.probes) in
-    let sums = sums_again (length f.manifest) total f.sums rest is.sums in
+    let probes = byte_again is_few total (length f.sums) r3 (range_met 0 8 (length f.sums) (omega arith) is.probes) in
+    let sums = many_again (sum_at (length f.manifest)) sum (IsSum (length f.manifest)) total (sum_again (length f.manifest) total) f.sums rest is.sums in
     ap (found_at total) (regroup (four f.version) (to_be_bytes w16 (length f.manifest)) (flat_map line f.manifest) (length f.sums) (flat_map sum f.sums) rest)
     ∙ rw (version, count, lines, probes, sums) refl

@@ -1,23 +1,25 @@
 -- The two laws of keys: what is read is spelled so, and what is spelled so is read.
-use Rattle.std.proofs.Common.{◌≡◌, ℕ, zero, suc, ◌%◌, ◌==◌, ◌≤◌, ◌≢◌, Bool, true, false, leb, ltb, List, [], ◌∷◌, ◌++◌, All, length, take, drop, Option, None, Some, Result, Ok, inl, inr, refl, sym, ap, subst, ◌∙◌, append_assoc, arith}
+use Rattle.std.proofs.Common.{◌≡◌, ℕ, zero, suc, ◌%◌, ◌==◌, ◌≤◌, ◌≢◌, Bool, true, false, leb, ltb, List, [], ◌∷◌, ◌++◌, All, length, take, drop, Option, None, Some, Ok, inl, inr, refl, sym, ap, subst, ◌∙◌, append_assoc, arith}
 use Rattle.std.specs.List.{flat_map, AllByRecursion}
-use Rattle.std.proofs.lemmas.Bool.{leb-true, le-leb, ltb-false, eqb-true, eq-eqb}
+use Rattle.std.proofs.lemmas.Bool.{ltb-false}
 use Rattle.std.proofs.lemmas.List.{length-take}
 use Rattle.std.proofs.lemmas.Bool.Decides.{eqb_tells}
-use Rattle.std.proofs.lemmas.List.Concat.{flat_map-cons}
+use Rattle.std.proofs.lemmas.List.Elements.{All-from_recursion, recursion_from_All}
 use Rattle.dory_dpf.specs.declared.tree.Correction.{Correction}
 use Rattle.dory_dpf.specs.PointKey.{PointKey, IsKey, IsKeyOf, form_of, form_with, kept_key, last_bytes, last_len, levels_of}
 use Rattle.dory_dpf.specs.KeyBytes.{bytes_of_key, control_byte, correction_bytes}
-use Rattle.dory_wire.specs.declared.fault.WireFault.{WireFault}
-use Rattle.dory_wire.specs.declared.fault.WireFault.TheVariants.{Body}
+use Rattle.dory_fields.specs.Left.{Left}
+use Rattle.dory_fields.specs.Reading.{Read, many_at, ◌>>=◌, place, byte_at, field_at}
+use Rattle.dory_fields.specs.Bytes.{IsBytes}
+use Rattle.dory_fields.proofs.Many.{many_take, many_each, many_again}
+use Rattle.dory_fields.proofs.Fields.{in_range, range_met, bind_ok, guard_ok, ok_is, Takes, Takes-then, byte_takes, byte_again, field_takes, field_again}
+use Rattle.dory_fields.specs.declared.fault.FieldFault.TheVariants.{CutShort}
 use Rattle.dory_base.specs.Dims.{Dims}
 use Rattle.dory_wire.specs.Spelling.{form_of_keys, AreKeys}
-use Rattle.dory_wire.specs.Reading.{◌>>=◌, place, byte_at, field_at, correction_at, corrections_at, last_at, key_at, keys_at, is_control, is_depth_of, is_form, is_party}
-use Rattle.dory_wire.proofs.Fields.{IsBytes, bind_ok, guard_ok, ok_is, ranged_ok, Takes, Takes-then, byte_takes, byte_again, field_takes, field_again}
-use Rattle.dory_wire.proofs.Ranges.{both_true}
+use Rattle.dory_wire.specs.Reading.{correction_at, last_at, key_at, is_control, is_depth_of, is_form, is_party}
 
 -- what is read, and what is left
-abbrev pub read_as : {A : Type 0} → A → List ℕ → Result (A × List ℕ) WireFault
+abbrev pub read_as : {A : Type 0} → A → List ℕ → Read A
 read_as x rest = Ok (x, rest)
 
 -- ---- the control bits
@@ -62,7 +64,7 @@ correction_takes total bytes x fits e =
     let t1 = byte_takes is_control total a.0.1 b.0.0 b.0.1 t0.0.rest_fits b.1 in
     let made : Correction = record { seed = a.0.0; left_bit = b.0.0 % 2 == 1; right_bit = leb 2 b.0.0 } in
     let both = Takes-then bytes a.0.0 a.0.1 (b.0.0 ∷ []) b.0.1 t0.0 t1.0 in
-    let same = spelled_control b.0.0 (leb-true b.0.0 3 t1.1) in
+    let same = spelled_control b.0.0 (in_range 0 3 b.0.0 t1.1).1 in
     subst (λ (y : Correction × List ℕ). Takes bytes (correction_bytes y.0) y.1 × WholeSeed y.0) (ok_is (made, b.0.1) x b.2)
     (subst (λ (n : ℕ). Takes bytes (a.0.0 ++ n ∷ []) b.0.1) (sym same) both, t0.1)
 
@@ -78,39 +80,6 @@ correction_again total c rest whole =
     let two = byte_again is_control total control rest (control_met c.left_bit c.right_bit) in
     ap (correction_at total) (append_assoc c.seed (control ∷ []) rest)
     ∙ rw (one, two) (same_correction c.seed (control % 2 == 1) c.left_bit (leb 2 control) c.right_bit rest (left_again c.left_bit c.right_bit) (right_again c.left_bit c.right_bit))
-
--- ---- corrections
-
-all_cons : (c : Correction) (cs : List Correction) → WholeSeed c → All WholeSeed cs → All WholeSeed (c ∷ cs)
-all_cons c cs first more zero d h = first
-all_cons c cs first more (suc k) d h = more k d (omega arith)
-
-corrections_take : (n total : ℕ) (bytes : List ℕ) (x : List Correction × List ℕ) → IsBytes bytes → corrections_at n total bytes ≡ Ok x
-    → Takes bytes (flat_map correction_bytes x.0) x.1 × (length x.0 ≡ n) × All WholeSeed x.0
-unfolding corrections_at
-corrections_take zero total bytes x fits e =
-    let none : All WholeSeed [] = λ k d h. absurd (omega arith) in
-    subst (λ (y : List Correction × List ℕ). Takes bytes (flat_map correction_bytes y.0) y.1 × (length y.0 ≡ 0) × All WholeSeed y.0) (ok_is ([], bytes) x e) (record { parts = refl; rest_fits = fits }, refl, none)
-corrections_take (suc n) total bytes x fits e =
-    let a = bind_ok (correction_at total bytes) (λ c. corrections_at n total c.1 >>= λ more. Ok (c.0 ∷ more.0, more.1)) x e in
-    let b = bind_ok (corrections_at n total a.0.1) (λ more. Ok (a.0.0 ∷ more.0, more.1)) x a.2 in
-    let first = correction_takes total bytes a.0 fits a.1 in
-    let second = corrections_take n total a.0.1 b.0 first.0.rest_fits b.1 in
-    let both = Takes-then bytes (correction_bytes a.0.0) a.0.1 (flat_map correction_bytes b.0.0) b.0.1 first.0 second.0 in
-    let made : List Correction × List ℕ = (a.0.0 ∷ b.0.0, b.0.1) in
-    subst (λ (y : List Correction × List ℕ). Takes bytes (flat_map correction_bytes y.0) y.1 × (length y.0 ≡ suc n) × All WholeSeed y.0) (ok_is made x b.2)
-    (rw flat_map-cons both, ap suc second.1, all_cons a.0.0 b.0.0 first.1 second.2)
-
-all_rest : (c : Correction) (cs : List Correction) → All WholeSeed (c ∷ cs) → All WholeSeed cs
-all_rest c cs all k d h = all (suc k) d (omega arith)
-
-corrections_again : (total : ℕ) (cs : List Correction) (rest : List ℕ) → All WholeSeed cs → corrections_at (length cs) total (flat_map correction_bytes cs ++ rest) ≡ Ok (cs, rest)
-unfolding corrections_at
-corrections_again total [] rest all = refl
-corrections_again total (c ∷ cs) rest all =
-    let regrouped : flat_map correction_bytes (c ∷ cs) ++ rest ≡ correction_bytes c ++ (flat_map correction_bytes cs ++ rest) = ap (λ (x : List ℕ). x ++ rest) (flat_map-cons correction_bytes c cs) ∙ append_assoc (correction_bytes c) (flat_map correction_bytes cs) rest in
-    let first = correction_again total c (flat_map correction_bytes cs ++ rest) (all 0 c (omega arith)) in
-    ap (corrections_at (suc (length cs)) total) regrouped ∙ rw (first, corrections_again total cs rest (all_rest c cs all)) refl
 
 -- ---- the last word
 
@@ -156,18 +125,18 @@ key_takes : (form depth total : ℕ) (bytes : List ℕ) (x : PointKey × List �
 unfolding key_at bytes_of_key
 key_takes form depth total bytes x one two low high fits e =
     let levels = levels_of form depth in
-    let after_last : ℕ × List ℕ → List ℕ × List ℕ → List Correction × List ℕ → Option (List ℕ) × List ℕ → Result (PointKey × List ℕ) WireFault = λ party seed corrections last. Ok (record { depth = depth; party = party.0; seed = seed.0; corrections = corrections.0; last = last.0 }, last.1) in
-    let a = bind_ok (byte_at (is_depth_of depth) total bytes) (λ same. byte_at is_party total same.1 >>= λ party. field_at 16 total party.1 >>= λ seed. corrections_at levels total seed.1 >>= λ corrections. last_at form total corrections.1 >>= λ last. after_last party seed corrections last) x e in
-    let b = bind_ok (byte_at is_party total a.0.1) (λ party. field_at 16 total party.1 >>= λ seed. corrections_at levels total seed.1 >>= λ corrections. last_at form total corrections.1 >>= λ last. after_last party seed corrections last) x a.2 in
-    let c = bind_ok (field_at 16 total b.0.1) (λ seed. corrections_at levels total seed.1 >>= λ corrections. last_at form total corrections.1 >>= λ last. after_last b.0 seed corrections last) x b.2 in
-    let d = bind_ok (corrections_at levels total c.0.1) (λ corrections. last_at form total corrections.1 >>= λ last. after_last b.0 c.0 corrections last) x c.2 in
+    let after_last : ℕ × List ℕ → List ℕ × List ℕ → List Correction × List ℕ → Option (List ℕ) × List ℕ → Read PointKey = λ party seed corrections last. Ok (record { depth = depth; party = party.0; seed = seed.0; corrections = corrections.0; last = last.0 }, last.1) in
+    let a = bind_ok (byte_at (is_depth_of depth) total bytes) (λ same. byte_at is_party total same.1 >>= λ party. field_at 16 total party.1 >>= λ seed. many_at correction_at levels total seed.1 >>= λ corrections. last_at form total corrections.1 >>= λ last. after_last party seed corrections last) x e in
+    let b = bind_ok (byte_at is_party total a.0.1) (λ party. field_at 16 total party.1 >>= λ seed. many_at correction_at levels total seed.1 >>= λ corrections. last_at form total corrections.1 >>= λ last. after_last party seed corrections last) x a.2 in
+    let c = bind_ok (field_at 16 total b.0.1) (λ seed. many_at correction_at levels total seed.1 >>= λ corrections. last_at form total corrections.1 >>= λ last. after_last b.0 seed corrections last) x b.2 in
+    let d = bind_ok (many_at correction_at levels total c.0.1) (λ corrections. last_at form total corrections.1 >>= λ last. after_last b.0 c.0 corrections last) x c.2 in
     let l = bind_ok (last_at form total d.0.1) (λ last. after_last b.0 c.0 d.0 last) x d.2 in
     let t0 = byte_takes (is_depth_of depth) total bytes a.0.0 a.0.1 fits a.1 in
     let t1 = byte_takes is_party total a.0.1 b.0.0 b.0.1 t0.0.rest_fits b.1 in
     let t2 = field_takes 16 total b.0.1 c.0.0 c.0.1 t1.0.rest_fits c.1 in
-    let t3 = corrections_take levels total c.0.1 d.0 t2.0.rest_fits d.1 in
+    let t3 = many_take correction_at correction_bytes WholeSeed correction_takes levels total c.0.1 d.0 t2.0.rest_fits d.1 in
     let t4 = last_takes form total d.0.1 l.0 one two t3.0.rest_fits l.1 in
-    let same : a.0.0 ≡ depth = eqb-true a.0.0 depth t0.1 in
+    let same : a.0.0 ≡ depth = omega (arith, in_range depth depth a.0.0 t0.1) in
     let flat = flat_map correction_bytes d.0.0 in
     let p3 = Takes-then c.0.1 flat d.0.1 (last_bytes l.0.0) l.0.1 t3.0 t4.0 in
     let p2 = Takes-then b.0.1 c.0.0 c.0.1 (flat ++ last_bytes l.0.0) l.0.1 t2.0 p3 in
@@ -177,10 +146,10 @@ key_takes form depth total bytes x one two low high fits e =
     let is : IsKey key = record {
       low = low;
       high = high;
-      parties = leb-true b.0.0 1 t1.1;
+      parties = (in_range 0 1 b.0.0 t1.1).1;
       seed = t2.1;
       levels = t3.1 ∙ ap (λ (f : ℕ). levels_of f depth) (sym t4.1.same);
-      whole = t3.2;
+      whole = All-from_recursion WholeSeed d.0.0 t3.2;
       last = t4.1.whole ∙ ap last_len (sym t4.1.same);
     } in
     let spelled : Takes bytes (depth ∷ b.0.0 ∷ (c.0.0 ++ flat ++ last_bytes l.0.0)) l.0.1 =
@@ -199,47 +168,30 @@ key_again total key rest is =
     let r2 = key.seed ++ r3 in
     let r1 = key.party ∷ r2 in
     let regrouped : (key.seed ++ flat ++ last) ++ rest ≡ r2 = append_assoc (key.seed ++ flat) last rest ∙ append_assoc key.seed flat r4 in
-    let same = byte_again (is_depth_of key.depth) total key.depth r1 (eq-eqb key.depth key.depth refl) in
-    let party = byte_again is_party total key.party r2 (le-leb key.party 1 is.parties) in
+    let same = byte_again (is_depth_of key.depth) total key.depth r1 (range_met key.depth key.depth key.depth (omega arith) (omega arith)) in
+    let party = byte_again is_party total key.party r2 (range_met 0 1 key.party (omega arith) is.parties) in
     let seed = field_again 16 total key.seed r3 is.seed in
-    let corrections : corrections_at (levels_of (form_of key) key.depth) total r3 ≡ Ok (key.corrections, r4) = subst (λ (n : ℕ). corrections_at n total r3 ≡ Ok (key.corrections, r4)) is.levels (corrections_again total key.corrections r4 is.whole) in
+    let corrections : many_at correction_at (levels_of (form_of key) key.depth) total r3 ≡ Ok (key.corrections, r4) =
+    subst (λ (n : ℕ). many_at correction_at n total r3 ≡ Ok (key.corrections, r4)) is.levels (many_again correction_at correction_bytes WholeSeed total (correction_again total) key.corrections r4 (recursion_from_All WholeSeed key.corrections is.whole)) in
     let end = last_again total key.last rest is.last in
     ap (λ (y : List ℕ). key_at (form_of key) key.depth total (key.depth ∷ key.party ∷ y)) regrouped ∙ rw (same, party, seed, corrections, end) refl
 
 -- ---- keys
 
-pub keys_take : (n form depth total : ℕ) (bytes : List ℕ) (x : List PointKey × List ℕ) → 1 ≤ form → form ≤ 2 → 8 ≤ depth → depth ≤ 11 → IsBytes bytes → keys_at n form depth total bytes ≡ Ok x
+pub keys_take : (n form depth total : ℕ) (bytes : List ℕ) (x : List PointKey × List ℕ) → 1 ≤ form → form ≤ 2 → 8 ≤ depth → depth ≤ 11 → IsBytes bytes → many_at (key_at form depth) n total bytes ≡ Ok x
     → Takes bytes (flat_map bytes_of_key x.0) x.1 × (length x.0 ≡ n) × AllByRecursion (IsKeyOf form depth) x.0
-unfolding keys_at
-keys_take zero form depth total bytes x one two low high fits e =
-    subst (λ (y : List PointKey × List ℕ). Takes bytes (flat_map bytes_of_key y.0) y.1 × (length y.0 ≡ 0) × AllByRecursion (IsKeyOf form depth) y.0) (ok_is ([], bytes) x e) (record { parts = refl; rest_fits = fits }, refl, tt)
-keys_take (suc n) form depth total bytes x one two low high fits e =
-    let a = bind_ok (key_at form depth total bytes) (λ c. keys_at n form depth total c.1 >>= λ more. Ok (c.0 ∷ more.0, more.1)) x e in
-    let b = bind_ok (keys_at n form depth total a.0.1) (λ more. Ok (a.0.0 ∷ more.0, more.1)) x a.2 in
-    let first = key_takes form depth total bytes a.0 one two low high fits a.1 in
-    let second = keys_take n form depth total a.0.1 b.0 one two low high first.0.rest_fits b.1 in
-    let both = Takes-then bytes (bytes_of_key a.0.0) a.0.1 (flat_map bytes_of_key b.0.0) b.0.1 first.0 second.0 in
-    let made : List PointKey × List ℕ = (a.0.0 ∷ b.0.0, b.0.1) in
-    subst (λ (y : List PointKey × List ℕ). Takes bytes (flat_map bytes_of_key y.0) y.1 × (length y.0 ≡ suc n) × AllByRecursion (IsKeyOf form depth) y.0) (ok_is made x b.2)
-    (rw flat_map-cons both, ap suc second.1, (first.1, second.2))
+keys_take n form depth total bytes x one two low high =
+    many_take (key_at form depth) bytes_of_key (IsKeyOf form depth) (λ t b k. key_takes form depth t b k one two low high) n total bytes x
 
-pub keys_again : (form depth total : ℕ) (keys : List PointKey) (rest : List ℕ) → AllByRecursion (IsKeyOf form depth) keys → keys_at (length keys) form depth total (flat_map bytes_of_key keys ++ rest) ≡ Ok (keys, rest)
-unfolding keys_at
-keys_again form depth total [] rest are = refl
-keys_again form depth total (k ∷ keys) rest are =
-    let regrouped : flat_map bytes_of_key (k ∷ keys) ++ rest ≡ bytes_of_key k ++ (flat_map bytes_of_key keys ++ rest) = ap (λ (x : List ℕ). x ++ rest) (flat_map-cons bytes_of_key k keys) ∙ append_assoc (bytes_of_key k) (flat_map bytes_of_key keys) rest in
-    let more = flat_map bytes_of_key keys ++ rest in
-    let first : key_at form depth total (bytes_of_key k ++ more) ≡ Ok (k, more) =
-    subst (λ (f : ℕ). key_at f depth total (bytes_of_key k ++ more) ≡ Ok (k, more)) are.0.form
-    (subst (λ (d : ℕ). key_at (form_of k) d total (bytes_of_key k ++ more) ≡ Ok (k, more)) are.0.depth (key_again total k more are.0.key)) in
-    ap (keys_at (suc (length keys)) form depth total) regrouped ∙ rw (first, keys_again form depth total keys rest are.1) refl
+key_of_again : (form depth total : ℕ) (key : PointKey) (rest : List ℕ) → IsKeyOf form depth key → key_at form depth total (bytes_of_key key ++ rest) ≡ Ok (key, rest)
+key_of_again form depth total key rest is =
+    subst (λ (f : ℕ). key_at f depth total (bytes_of_key key ++ rest) ≡ Ok (key, rest)) is.form
+    (subst (λ (d : ℕ). key_at (form_of key) d total (bytes_of_key key ++ rest) ≡ Ok (key, rest)) is.depth (key_again total key rest is.key))
+
+pub keys_again : (form depth total : ℕ) (keys : List PointKey) (rest : List ℕ) → AllByRecursion (IsKeyOf form depth) keys → many_at (key_at form depth) (length keys) total (flat_map bytes_of_key keys ++ rest) ≡ Ok (keys, rest)
+keys_again form depth total = many_again (key_at form depth) bytes_of_key (IsKeyOf form depth) total (key_of_again form depth total)
 
 -- ---- the form
-
-pub form_range : (n : ℕ) → is_form n ≡ true → (1 ≤ n) × (n ≤ 2)
-form_range n e =
-    let p = both_true (leb 1 n) (leb n 2) e in
-    (leb-true 1 n p.0, leb-true n 2 p.1)
 
 with_met : (word : Option (List ℕ)) → is_form (form_with word) ≡ true
 with_met None = refl
@@ -262,17 +214,9 @@ are_keys form shape keys some many are =
 
 -- ---- the parts of a key, as they are read
 
-party_low : (total : ℕ) (bytes : List ℕ) (n : ℕ) (rest : List ℕ) → byte_at is_party total bytes ≡ Ok (n, rest) → n ≤ 1
-unfolding byte_at
-party_low total [] n rest e = absurd cc
-party_low total (b ∷ bytes) n rest e =
-    let g = ranged_ok total (b ∷ bytes) (is_party b) (b, bytes) (n, rest) e in
-    let same : b ≡ n = ap (λ (p : ℕ × List ℕ). p.0) g.1 in
-    subst (λ (k : ℕ). k ≤ 1) same (leb-true b 1 g.0)
-
 sixteen_long : (total : ℕ) (bytes text rest : List ℕ) → field_at 16 total bytes ≡ Ok (text, rest) → length text ≡ 16
 sixteen_long total bytes text rest e =
-    let g = guard_ok (ltb (length bytes) 16) (Body (place total bytes)) (take 16 bytes, drop 16 bytes) (text, rest) e in
+    let g = guard_ok (ltb (length bytes) 16) (CutShort (place total bytes)) (take 16 bytes, drop 16 bytes) (text, rest) e in
     let long : 16 ≤ length bytes = ltb-false _ _ g.0 in
     let same : take 16 bytes ≡ text = ap (λ (p : List ℕ × List ℕ). p.0) g.1 in
     subst (λ (t : List ℕ). length t ≡ 16) same (omega (arith, length-take 16 bytes))
@@ -285,18 +229,10 @@ correction_whole total bytes x e =
     let made : Correction = record { seed = a.0.0; left_bit = b.0.0 % 2 == 1; right_bit = leb 2 b.0.0 } in
     subst (λ (y : Correction × List ℕ). WholeSeed y.0) (ok_is (made, b.0.1) x b.2) (sixteen_long total bytes a.0.0 a.0.1 a.1)
 
-corrections_whole : (n total : ℕ) (bytes : List ℕ) (x : List Correction × List ℕ) → corrections_at n total bytes ≡ Ok x → (length x.0 ≡ n) × All WholeSeed x.0
-unfolding corrections_at
-corrections_whole zero total bytes x e =
-    let none : All WholeSeed [] = λ k d h. absurd (omega arith) in
-    subst (λ (y : List Correction × List ℕ). (length y.0 ≡ 0) × All WholeSeed y.0) (ok_is ([], bytes) x e) (refl, none)
-corrections_whole (suc n) total bytes x e =
-    let a = bind_ok (correction_at total bytes) (λ c. corrections_at n total c.1 >>= λ more. Ok (c.0 ∷ more.0, more.1)) x e in
-    let b = bind_ok (corrections_at n total a.0.1) (λ more. Ok (a.0.0 ∷ more.0, more.1)) x a.2 in
-    let first = correction_whole total bytes a.0 a.1 in
-    let more = corrections_whole n total a.0.1 b.0 b.1 in
-    let made : List Correction × List ℕ = (a.0.0 ∷ b.0.0, b.0.1) in
-    subst (λ (y : List Correction × List ℕ). (length y.0 ≡ suc n) × All WholeSeed y.0) (ok_is made x b.2) (ap suc more.0, all_cons a.0.0 b.0.0 first more.1)
+corrections_whole : (n total : ℕ) (bytes : List ℕ) (x : List Correction × List ℕ) → many_at correction_at n total bytes ≡ Ok x → (length x.0 ≡ n) × All WholeSeed x.0
+corrections_whole n total bytes x e =
+    let each = many_each correction_at WholeSeed correction_whole n total bytes x e in
+    (each.0, All-from_recursion WholeSeed x.0 each.1)
 
 last_whole : (form total : ℕ) (bytes : List ℕ) (x : Option (List ℕ) × List ℕ) → 1 ≤ form → form ≤ 2 → last_at form total bytes ≡ Ok x → IsLast form x.0
 unfolding last_at
@@ -315,18 +251,18 @@ last_whole form total bytes x one two e =
     ]
 
 -- the parts that are read are those of a key
-pub read_parts : (form depth total : ℕ) (b1 b2 b3 b4 r1 r2 r3 r4 : List ℕ) (party : ℕ) (seed : List ℕ) (cs : List Correction) (word : Option (List ℕ)) → 1 ≤ form → form ≤ 2 → 8 ≤ depth → depth ≤ 11
-    → byte_at is_party total b1 ≡ Ok (party, r1) → field_at 16 total b2 ≡ Ok (seed, r2) → corrections_at (levels_of form depth) total b3 ≡ Ok (take (levels_of form depth) cs, r3) → last_at form total b4 ≡ Ok (word, r4)
+pub read_parts : (form depth : ℕ) (r2 r3 r4 r5 : Left) (party : ℕ) (seed : List ℕ) (cs : List Correction) (word : Option (List ℕ)) → 1 ≤ form → form ≤ 2 → 8 ≤ depth → depth ≤ 11
+    → party ≤ 1 → field_at 16 r2.total r2.rest ≡ Ok (seed, r3.rest) → many_at correction_at (levels_of form depth) r3.total r3.rest ≡ Ok (take (levels_of form depth) cs, r4.rest) → last_at form r4.total r4.rest ≡ Ok (word, r5.rest)
     → IsKey (kept_key depth party seed cs word)
-read_parts form depth total b1 b2 b3 b4 r1 r2 r3 r4 party seed cs word one two low high p s c l =
-    let whole = corrections_whole (levels_of form depth) total b3 (take (levels_of form depth) cs, r3) c in
-    let end : IsLast form word = last_whole form total b4 (word, r4) one two l in
+read_parts form depth r2 r3 r4 r5 party seed cs word one two low high p s c l =
+    let whole = corrections_whole (levels_of form depth) r3.total r3.rest (take (levels_of form depth) cs, r4.rest) c in
+    let end : IsLast form word = last_whole form r4.total r4.rest (word, r5.rest) one two l in
     let kept : take (levels_of (form_with word) depth) cs ≡ take (levels_of form depth) cs = ap (λ (f : ℕ). take (levels_of f depth) cs) end.same in
     record {
       low = low;
       high = high;
-      parties = party_low total b1 party r1 p;
-      seed = sixteen_long total b2 seed r2 s;
+      parties = p;
+      seed = sixteen_long r2.total r2.rest seed r3.rest s;
       levels = ap (length {A = Correction}) kept ∙ whole.0 ∙ ap (λ (f : ℕ). levels_of f depth) (sym end.same);
       whole = subst (λ (xs : List Correction). All WholeSeed xs) (sym kept) whole.1;
       last = end.whole ∙ ap last_len (sym end.same);
@@ -336,12 +272,23 @@ same_key : (depth party : ℕ) (seed : List ℕ) (cs ds : List Correction) (word
     → (let k : PointKey = record { depth = depth; party = party; seed = seed; corrections = cs; last = word } in let l : PointKey = record { depth = depth; party = party; seed = seed; corrections = ds; last = word } in read_as k rest ≡ read_as l rest)
 same_key depth party seed cs ds word rest e = rw e refl
 
+-- a reader read this
+abbrev Took : {A : Type 0} → (ℕ → List ℕ → Read A) → A → Left → Left → Type 0
+Took read x old new = (new.total ≡ old.total) × (read old.total old.rest ≡ Ok (x, new.rest))
+
+took_by : {A : Type 0} (read : ℕ → List ℕ → Read A) (x : A) (total : ℕ) (old new : Left) → old.total ≡ total → Took read x old new → (new.total ≡ total) × (read total old.rest ≡ Ok (x, new.rest))
+took_by read x total old new same took = (took.0 ∙ same, subst (λ (t : ℕ). read t old.rest ≡ Ok (x, new.rest)) same took.1)
+
 -- the key that is read from them
-pub key_read : (form depth total : ℕ) (bytes r0 r1 r2 r3 r4 : List ℕ) (d party : ℕ) (seed : List ℕ) (cs : List Correction) (word : Option (List ℕ)) → 1 ≤ form → form ≤ 2
-    → byte_at (is_depth_of depth) total bytes ≡ Ok (d, r0) → byte_at is_party total r0 ≡ Ok (party, r1) → field_at 16 total r1 ≡ Ok (seed, r2) → corrections_at (levels_of form depth) total r2 ≡ Ok (take (levels_of form depth) cs, r3) → last_at form total r3 ≡ Ok (word, r4)
-    → key_at form depth total bytes ≡ Ok (kept_key depth party seed cs word, r4)
+pub key_read : (form depth : ℕ) (r0 r1 r2 r3 r4 r5 : Left) (d party : ℕ) (seed : List ℕ) (cs : List Correction) (word : Option (List ℕ)) → 1 ≤ form → form ≤ 2
+    → Took (byte_at (is_depth_of depth)) d r0 r1 → Took (byte_at is_party) party r1 r2 → Took (field_at 16) seed r2 r3 → Took (many_at correction_at (levels_of form depth)) (take (levels_of form depth) cs) r3 r4 → Took (last_at form) word r4 r5
+    → Took (key_at form depth) (kept_key depth party seed cs word) r0 r5
 unfolding key_at
-key_read form depth total bytes r0 r1 r2 r3 r4 d party seed cs word one two e p s c l =
-    let end : IsLast form word = last_whole form total r3 (word, r4) one two l in
+key_read form depth r0 r1 r2 r3 r4 r5 d party seed cs word one two e p s c l =
+    let p1 = took_by (byte_at is_party) party r0.total r1 r2 e.0 p in
+    let s1 = took_by (field_at 16) seed r0.total r2 r3 p1.0 s in
+    let c1 = took_by (many_at correction_at (levels_of form depth)) (take (levels_of form depth) cs) r0.total r3 r4 s1.0 c in
+    let l1 = took_by (last_at form) word r0.total r4 r5 c1.0 l in
+    let end : IsLast form word = last_whole form r0.total r4.rest (word, r5.rest) one two l1.1 in
     let kept : take (levels_of form depth) cs ≡ take (levels_of (form_with word) depth) cs = ap (λ (f : ℕ). take (levels_of f depth) cs) (sym end.same) in
-    rw (e, p, s, c, l) (same_key depth party seed (take (levels_of form depth) cs) (take (levels_of (form_with word) depth) cs) word r4 kept)
+    (l1.0, rw (e.1, p1.1, s1.1, c1.1, l1.1) (same_key depth party seed (take (levels_of form depth) cs) (take (levels_of (form_with word) depth) cs) word r5.rest kept))

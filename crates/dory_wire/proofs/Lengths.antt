@@ -18,6 +18,9 @@ use Rattle.dory_base.specs.declared.refusal.Refusal.TheVariants.{NoFolder, Shape
 use Rattle.dory_dpf.specs.declared.tree.Correction.{Correction}
 use Rattle.dory_dpf.specs.PointKey.{PointKey, IsKey, IsKeyOf, form_with, last_bytes, last_len, levels_of}
 use Rattle.dory_dpf.specs.KeyBytes.{bytes_of_key, control_byte, correction_bytes}
+use Rattle.dory_fields.specs.Bytes.{four}
+use Rattle.dory_fields.specs.Packing.{packed}
+use Rattle.dory_fields.proofs.Packing.{length-packed}
 use Rattle.dory_wire.specs.declared.message.Want.{Want}
 use Rattle.dory_wire.specs.declared.message.Want.TheVariants.{Latest, Search, Which, Stage, Order, Follow}
 use Rattle.dory_wire.specs.declared.message.What.{What}
@@ -25,11 +28,10 @@ use Rattle.dory_wire.specs.declared.message.What.TheVariants.{At, Found as Finds
 use Rattle.dory_wire.specs.declared.message.Request.{Request}
 use Rattle.dory_wire.specs.declared.message.Reply.{Reply}
 use Rattle.dory_wire.specs.Frame.{frame_of}
-use Rattle.dory_wire.specs.Spelling.{ask, four, id, packed, line, sum, found, change, entry, refusal_fields, want, what, spelling_of_request, spelling_of_reply, form_of_keys, IsSum, IsFound, IsChange, IsEntry, IsWant, IsWhat, IsRequest, IsReply}
+use Rattle.dory_wire.specs.Spelling.{ask, id, line, sum, found, change, entry, refusal_fields, want, what, spelling_of_request, spelling_of_reply, form_of_keys, IsSum, IsFound, IsChange, IsEntry, IsWant, IsWhat, IsRequest, IsReply}
 use Rattle.dory_wire.specs.Reading.{request_in, request_or_none, reply_in, reply_or_none, if_read}
-use Rattle.dory_wire.proofs.Packing.{length-packed}
 use Rattle.dory_wire.proofs.Ranges.{narrow}
-use Rattle.dory_wire.proofs.Holding.{length-tag_bytes}
+use Rattle.dory_wire.proofs.Fields.{length-tag_bytes}
 use Rattle.dory_wire.proofs.FrameLaws.{message_in_frame}
 use Rattle.dory_wire.proofs.RequestLaws.{read_again_request}
 use Rattle.dory_wire.proofs.ReplyLaws.{read_again_reply}

@@ -1,8 +1,6 @@
-pub mod Unpacking
 pub mod Loops
 pub mod Fields
 pub mod Lines
-pub mod Packing
 pub mod Holding
 pub mod Ranges
 pub mod Made

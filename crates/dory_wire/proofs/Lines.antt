@@ -1,14 +1,16 @@
 -- The lines of a manifest: what is read is spelled so and rises, and what is spelled so is read.
-use Rattle.std.proofs.Common.{◌≡◌, ℕ, zero, suc, ◌+◌, ◌^◌, ◌<◌, ◌≤◌, Bool, true, false, ◌&&◌, leb, ltb, List, [], ◌∷◌, ◌++◌, length, map, Ok, refl, ap, subst, ◌∙◌, append_assoc, arith}
+use Rattle.std.proofs.Common.{◌≡◌, ℕ, zero, suc, ◌+◌, ◌^◌, ◌<◌, ◌≤◌, true, List, [], ◌∷◌, ◌++◌, length, map, Ok, refl, ap, subst, ◌∙◌, append_assoc, arith}
 use Rattle.std.specs.List.{slice_index, flat_map, AllByRecursion}
 use Rattle.std.specs.List.Sorted.{IsStrictlyIncreasing}
 use Rattle.std.specs.Int.{w16, w32, to_be_bytes}
-use Rattle.std.proofs.lemmas.Bool.{leb-true, ltb-true, le-leb, lt-ltb}
 use Rattle.std.proofs.lemmas.List.Concat.{flat_map-cons}
 use Rattle.dory_base.specs.declared.found.Place.{Place}
-use Rattle.dory_wire.specs.Spelling.{four, id, line, IsLine}
-use Rattle.dory_wire.specs.Reading.{◌>>=◌, number_at, tested_at, id_at, is_slot, ranged, line_at, lines_at}
-use Rattle.dory_wire.proofs.Fields.{IsBytes, bind_ok, ok_is, ranged_ok, Takes, Takes-then, wide16, wide32, number_takes, number_again, tested_takes, tested_again, id_takes, id_again}
+use Rattle.dory_fields.specs.Bytes.{IsBytes, four}
+use Rattle.dory_fields.specs.Reading.{◌>>=◌, number_at, tested_at, ranged}
+use Rattle.dory_fields.proofs.Fields.{bind_ok, ok_is, ranged_ok, in_range, range_met, Takes, Takes-then, wide16, wide32, number_takes, number_again, tested_takes, tested_again}
+use Rattle.dory_wire.specs.Spelling.{id, line, IsLine}
+use Rattle.dory_wire.specs.Reading.{id_at, is_slot, line_at, lines_at}
+use Rattle.dory_wire.proofs.Fields.{id_takes, id_again}
 
 -- slots that rise from this one on
 abbrev pub Rises : ℕ → List Place → Type 0
@@ -42,10 +44,6 @@ increase_rises least (p ∷ q ∷ ps) low h = (
       subst (λ (j : ℕ). slots (p ∷ q ∷ ps) (suc k) < slots (p ∷ q ∷ ps) j) e (h (suc k) (omega arith))),
 )
 
-both_true : (a b : Bool) → (a && b) ≡ true → (a ≡ true) × (b ≡ true)
-both_true true b e = (refl, e)
-both_true false b e = absurd cc
-
 pub line_takes : (least total : ℕ) (bytes : List ℕ) (x : Place × List ℕ) → IsBytes bytes → line_at least total bytes ≡ Ok x → Takes bytes (line x.0) x.1 × IsLine x.0 × (least ≤ x.0.slot)
 unfolding line_at
 line_takes least total bytes x fits e =
@@ -55,18 +53,18 @@ line_takes least total bytes x fits e =
     let t0 = tested_takes w16 (2 ^ 16) wide16 (is_slot least) total bytes a.0.0 a.0.1 fits a.1 in
     let t1 = number_takes w32 (2 ^ 32) wide32 total a.0.1 b.0.0 b.0.1 t0.0.rest_fits b.1 in
     let t2 = id_takes total b.0.1 c.0 t1.0.rest_fits c.1 in
-    let range = both_true (leb least a.0.0) (ltb a.0.0 4096) t0.2 in
+    let range = in_range least 4095 a.0.0 t0.2 in
     let e01 = Takes-then bytes (to_be_bytes w16 a.0.0) a.0.1 (four b.0.0) b.0.1 t0.0 t1.0 in
     let e02 = Takes-then bytes (to_be_bytes w16 a.0.0 ++ four b.0.0) b.0.1 (id c.0.0) c.0.1 e01 t2.0 in
     let made : Place = record { slot = a.0.0; doc = record { 0 = b.0.0 }; id = c.0.0 } in
-    let is : IsLine made = record { slot = ltb-true a.0.0 4096 range.1; doc = t1.1; member = t2.1.member; some = t2.1.some; serial = t2.1.serial } in
-    subst (λ (y : Place × List ℕ). Takes bytes (line y.0) y.1 × IsLine y.0 × (least ≤ y.0.slot)) (ok_is (made, c.0.1) x c.2) (e02, is, leb-true least a.0.0 range.0)
+    let is : IsLine made = record { slot = omega (arith, range.1); doc = t1.1; member = t2.1.member; some = t2.1.some; serial = t2.1.serial } in
+    subst (λ (y : Place × List ℕ). Takes bytes (line y.0) y.1 × IsLine y.0 × (least ≤ y.0.slot)) (ok_is (made, c.0.1) x c.2) (e02, is, range.0)
 
 pub line_again : (least total : ℕ) (p : Place) (rest : List ℕ) → IsLine p → least ≤ p.slot → line_at least total (line p ++ rest) ≡ Ok (p, rest)
 unfolding line_at
 line_again least total p rest is low =
     let regrouped : line p ++ rest ≡ to_be_bytes w16 p.slot ++ (four p.doc.0 ++ (id p.id ++ rest)) = append_assoc (to_be_bytes w16 p.slot ++ four p.doc.0) (id p.id) rest ∙ append_assoc (to_be_bytes w16 p.slot) (four p.doc.0) (id p.id ++ rest) in
-    let met : is_slot least p.slot ≡ true = rw (le-leb least p.slot low, lt-ltb p.slot 4096 is.slot) refl in
+    let met : is_slot least p.slot ≡ true = range_met least 4095 p.slot low (omega (arith, is.slot)) in
     let slot = tested_again w16 (2 ^ 16) wide16 (is_slot least) total p.slot (four p.doc.0 ++ (id p.id ++ rest)) (omega (arith, is.slot)) met in
     let doc = number_again w32 (2 ^ 32) wide32 total p.doc.0 (id p.id ++ rest) is.doc in
     let name = id_again total p.id rest (record { member = is.member; some = is.some; serial = is.serial }) in
@@ -103,8 +101,8 @@ line_least least total bytes x e =
     let made : Place × List ℕ = (record { slot = a.0.0; doc = record { 0 = b.0.0 }; id = c.0.0 }, c.0.1) in
     let n = bind_ok (number_at w16 total bytes) (λ n. ranged total bytes (is_slot least n.0) n) a.0 a.1 in
     let g = ranged_ok total bytes (is_slot least n.0.0) n.0 a.0 n.2 in
-    let low : leb least n.0.0 ≡ true = (both_true (leb least n.0.0) (ltb n.0.0 4096) g.0).0 in
-    subst (λ (y : Place × List ℕ). least ≤ y.0.slot) (ok_is made x c.2) (subst (λ (y : ℕ × List ℕ). least ≤ y.0) g.1 (leb-true least n.0.0 low))
+    let low : least ≤ n.0.0 = (in_range least 4095 n.0.0 g.0).0 in
+    subst (λ (y : Place × List ℕ). least ≤ y.0.slot) (ok_is made x c.2) (subst (λ (y : ℕ × List ℕ). least ≤ y.0) g.1 low)
 
 lines_rise : (n least total : ℕ) (bytes : List ℕ) (x : List Place × List ℕ) → lines_at n least total bytes ≡ Ok x → Rises least x.0
 unfolding lines_at

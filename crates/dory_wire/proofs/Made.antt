@@ -1,21 +1,23 @@
 -- What is made of an id, of a number and an id, and of a length: it is read as it is spelled.
-use Rattle.std.proofs.Common.{◌≡◌, ◌∙◌, ℕ, suc, ◌^◌, ◌≤◌, Bool, true, false, cond, eqb, leb, List, ◌++◌, Result, Ok, inl, inr, refl, sym, ap, subst, append_assoc, arith}
+use Rattle.std.proofs.Common.{◌≡◌, ◌∙◌, ℕ, suc, ◌^◌, ◌≤◌, Bool, true, false, cond, eqb, List, ◌++◌, Result, Ok, inl, inr, refl, sym, ap, subst, append_assoc, arith}
 use Rattle.std.specs.Int.{w32}
-use Rattle.std.proofs.lemmas.Bool.{cases_lt, leb-true, le-leb, eqb-true, eq-eqb}
+use Rattle.std.proofs.lemmas.Bool.{cases_lt, eqb-true, eq-eqb}
 use Rattle.dory_base.specs.declared.ids.UpdateId.{UpdateId}
-use Rattle.dory_wire.specs.declared.fault.WireFault.{WireFault}
-use Rattle.dory_wire.specs.Spelling.{four, id, IsId, IsNumber}
-use Rattle.dory_wire.specs.Reading.{◌>>=◌, id_at, tested_at, named_at, numbered_at, counted_at, is_count, is_number}
-use Rattle.dory_wire.proofs.Fields.{IsBytes, bind_ok, ok_is, Takes, Takes-then, wide32, tested_takes, tested_again, id_takes, id_again}
-use Rattle.dory_wire.proofs.Ranges.{both_true}
+use Rattle.dory_fields.specs.Bytes.{four, IsBytes}
+use Rattle.dory_fields.specs.Reading.{◌>>=◌, tested_at}
+use Rattle.dory_fields.proofs.Fields.{in_range, range_met, bind_ok, ok_is, Takes, Takes-then, wide32, tested_takes, tested_again}
+use Rattle.dory_fields.specs.declared.fault.FieldFault.{FieldFault}
+use Rattle.dory_wire.specs.Spelling.{id, IsId, IsNumber}
+use Rattle.dory_wire.specs.Reading.{id_at, named_at, numbered_at, counted_at, is_count, is_number}
+use Rattle.dory_wire.proofs.Fields.{id_takes, id_again}
 
 pub number_range : (n : ℕ) → is_number n ≡ true → IsNumber n
 number_range n e =
-    let p = both_true (leb 1 n) (leb n 1048576) e in
-    record { some = leb-true 1 n p.0; few = leb-true n 1048576 p.1 }
+    let p = in_range 1 1048576 n e in
+    record { some = p.0; few = p.1 }
 
 pub number_met : (n : ℕ) → IsNumber n → is_number n ≡ true
-number_met n is = rw (le-leb 1 n is.some, le-leb n 1048576 is.few) refl
+number_met n is = range_met 1 1048576 n is.some is.few
 
 -- ---- an id
 
@@ -57,15 +59,15 @@ unfolding counted_at
 counted_takes make P total bytes x fits e so =
     let a = bind_ok (tested_at w32 is_count total bytes) (λ length. Ok (make length.0, length.1)) x e in
     let t = tested_takes w32 (2 ^ 32) wide32 is_count total bytes a.0.0 a.0.1 fits a.1 in
-    subst P (ok_is (make a.0.0, a.0.1) x a.2) (so a.0.0 a.0.1 t.0 (leb-true a.0.0 1048576 t.2))
+    subst P (ok_is (make a.0.0, a.0.1) x a.2) (so a.0.0 a.0.1 t.0 (in_range 0 1048576 a.0.0 t.2).1)
 
 pub counted_again : {A : Type 0} (make : ℕ → A) (total n : ℕ) (rest : List ℕ) → n ≤ 1048576 → counted_at make total (four n ++ rest) ≡ Ok (make n, rest)
 unfolding counted_at
-counted_again make total n rest is = rw (tested_again w32 (2 ^ 32) wide32 is_count total n rest (omega (arith, is)) (le-leb n 1048576 is)) refl
+counted_again make total n rest is = rw (tested_again w32 (2 ^ 32) wide32 is_count total n rest (omega (arith, is)) (range_met 0 1048576 n (omega arith) is)) refl
 
 -- ---- what is read by a number that says which
 
-which_branch : {A : Type 0} (n k : ℕ) (P : ℕ → Type 0) (x y : Result A WireFault) (z : A) (b : Bool) → eqb n k ≡ b → k ≤ n → (x ≡ Ok z → P k) → (suc k ≤ n → y ≡ Ok z → P n) → cond b x y ≡ Ok z → P n
+which_branch : {A : Type 0} (n k : ℕ) (P : ℕ → Type 0) (x y : Result A FieldFault) (z : A) (b : Bool) → eqb n k ≡ b → k ≤ n → (x ≡ Ok z → P k) → (suc k ≤ n → y ≡ Ok z → P n) → cond b x y ≡ Ok z → P n
 which_branch n k P x y z true q le one more e = subst P (sym (eqb-true n k q)) (one e)
 which_branch n k P x y z false q le one more e =
     elim (cases_lt k n) [
@@ -77,7 +79,7 @@ which_branch n k P x y z false q le one more e =
     ]
 
 -- the number is this one, or a later one
-pub by_number : {A : Type 0} (n k : ℕ) (P : ℕ → Type 0) (x y : Result A WireFault) (z : A) → k ≤ n → (x ≡ Ok z → P k) → (suc k ≤ n → y ≡ Ok z → P n) → cond (eqb n k) x y ≡ Ok z → P n
+pub by_number : {A : Type 0} (n k : ℕ) (P : ℕ → Type 0) (x y : Result A FieldFault) (z : A) → k ≤ n → (x ≡ Ok z → P k) → (suc k ≤ n → y ≡ Ok z → P n) → cond (eqb n k) x y ≡ Ok z → P n
 by_number n k P x y z le one more e = which_branch n k P x y z (eqb n k) refl le one more e
 
 -- the number is the last one

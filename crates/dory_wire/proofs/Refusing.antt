@@ -1,16 +1,15 @@
 -- A refusal is read as it is spelled.
-use Rattle.std.proofs.Common.{◌≡◌, ℕ, zero, suc, ◌^◌, ◌≤◌, true, cond, eqb, leb, List, [], ◌∷◌, ◌++◌, Result, Ok, refl, sym, ap, subst, ◌∙◌, append_assoc, arith}
+use Rattle.std.proofs.Common.{◌≡◌, ℕ, zero, suc, ◌^◌, ◌≤◌, true, cond, eqb, List, [], ◌∷◌, ◌++◌, Ok, refl, sym, ap, subst, ◌∙◌, append_assoc, arith}
 use Rattle.std.specs.Int.{w32, w64}
-use Rattle.std.proofs.lemmas.Bool.{leb-true, le-leb}
 use Rattle.dory_base.specs.declared.ids.Side.{Side}
 use Rattle.dory_base.specs.declared.ids.Side.TheVariants.{Lead, Follow}
 use Rattle.dory_base.specs.declared.refusal.Refusal.{Refusal}
 use Rattle.dory_base.specs.declared.refusal.Refusal.TheVariants.{NoFolder, ShapeWrong, Unretained, BadMember, Past, Clash, Unfinished, Unstaged, Taken, Gap, WrongRole, HistoryFull, NoEntry, NoMemory}
-use Rattle.dory_wire.specs.declared.fault.WireFault.{WireFault}
-use Rattle.dory_wire.specs.Spelling.{four, role_byte, refusal, refusal_code, refusal_fields, IsRefusal}
-use Rattle.dory_wire.specs.Reading.{◌>>=◌, number_at, tested_at, byte_at, named_at, numbered_at, counted_at, shape_at, retained_at, member_at, past_at, role_at, role_of, later_code_at, code_at, refusal_at, is_code, is_count, is_depth, is_probes, is_role}
-use Rattle.dory_wire.proofs.Fields.{IsBytes, bind_ok, ok_is, Takes, Takes-then, wide32, wide64, number_takes, number_again, tested_takes, tested_again, byte_takes, byte_again}
-use Rattle.dory_wire.proofs.Ranges.{both_true, depth_range, probes_range, depth_met, probes_met}
+use Rattle.dory_fields.specs.Bytes.{four, IsBytes}
+use Rattle.dory_fields.specs.Reading.{Read, ◌>>=◌, number_at, tested_at, byte_at}
+use Rattle.dory_fields.proofs.Fields.{in_range, range_met, bind_ok, ok_is, Takes, Takes-then, wide32, wide64, number_takes, number_again, tested_takes, tested_again, byte_takes, byte_again}
+use Rattle.dory_wire.specs.Spelling.{role_byte, refusal, refusal_code, refusal_fields, IsRefusal}
+use Rattle.dory_wire.specs.Reading.{named_at, numbered_at, counted_at, shape_at, retained_at, member_at, past_at, role_at, role_of, later_code_at, code_at, refusal_at, is_code, is_count, is_depth, is_probes, is_role}
 use Rattle.dory_wire.proofs.Made.{named_takes, named_again, numbered_takes, numbered_again, counted_takes, counted_again, by_number, at_last}
 
 -- what was read of a refusal of this code
@@ -26,8 +25,8 @@ shape_takes total bytes x fits e =
     let b = bind_ok (byte_at is_probes total a.0.1) (λ probes. Ok (ShapeWrong a.0.0 probes.0, probes.1)) x a.2 in
     let t0 = byte_takes is_depth total bytes a.0.0 a.0.1 fits a.1 in
     let t1 = byte_takes is_probes total a.0.1 b.0.0 b.0.1 t0.0.rest_fits b.1 in
-    let depth = depth_range a.0.0 t0.1 in
-    let probes = probes_range b.0.0 t1.1 in
+    let depth = in_range 8 11 a.0.0 t0.1 in
+    let probes = in_range 1 8 b.0.0 t1.1 in
     let made : Refusal × List ℕ = (ShapeWrong a.0.0 b.0.0, b.0.1) in
     subst (TakesCode 2 bytes) (ok_is made x b.2) (record {
       code_is = refl;
@@ -46,7 +45,7 @@ retained_takes total bytes x fits e =
     subst (TakesCode 3 bytes) (ok_is made x b.2) (record {
       code_is = refl;
       takes = Takes-then bytes (four a.0.0) a.0.1 (four b.0.0) b.0.1 t0.0 t1.0;
-      ranges = (leb-true a.0.0 1048576 t0.2, leb-true b.0.0 1048576 t1.2);
+      ranges = ((in_range 0 1048576 a.0.0 t0.2).1, (in_range 0 1048576 b.0.0 t1.2).1);
     })
 
 member_takes : (total : ℕ) (bytes : List ℕ) (x : Refusal × List ℕ) → IsBytes bytes → member_at total bytes ≡ Ok x → TakesCode 4 bytes x
@@ -73,7 +72,7 @@ unfolding role_at
 role_takes total bytes x fits e =
     let a = bind_ok (byte_at is_role total bytes) (λ role. Ok (WrongRole (role_of role.0), role.1)) x e in
     let t = byte_takes is_role total bytes a.0.0 a.0.1 fits a.1 in
-    let text : role_byte (role_of a.0.0) ≡ a.0.0 = role_again a.0.0 (leb-true a.0.0 1 t.1) in
+    let text : role_byte (role_of a.0.0) ≡ a.0.0 = role_again a.0.0 (in_range 0 1 a.0.0 t.1).1 in
     subst (TakesCode 11 bytes) (ok_is (WrongRole (role_of a.0.0), a.0.1) x a.2) (record { code_is = refl; takes = subst (λ (n : ℕ). Takes bytes (n ∷ []) a.0.1) (sym text) t.0; ranges = tt })
 
 no_fields : (code : ℕ) (bytes : List ℕ) (r : Refusal) (x : Refusal × List ℕ) → IsBytes bytes → refusal_code r ≡ code → refusal_fields r ≡ [] → IsRefusal r → (r, bytes) ≡ x → TakesCode code bytes x
@@ -82,7 +81,7 @@ no_fields code bytes r x fits code_is none is same =
 
 -- ---- the fields by the code
 
-abbrev code_from_11 : ℕ → ℕ → List ℕ → Result (Refusal × List ℕ) WireFault
+abbrev code_from_11 : ℕ → ℕ → List ℕ → Read Refusal
 code_from_11 code total bytes = cond (eqb code 11) (role_at total bytes) (cond (eqb code 12) (Ok (HistoryFull, bytes)) (cond (eqb code 13) (counted_at NoEntry total bytes) (Ok (NoMemory, bytes))))
 
 from_11_takes : (code total : ℕ) (bytes : List ℕ) (x : Refusal × List ℕ) → IsBytes bytes → 11 ≤ code → code ≤ 14 → code_from_11 code total bytes ≡ Ok x → TakesCode code bytes x
@@ -106,7 +105,7 @@ later_takes code total bytes x fits low high =
     (λ e. counted_takes Gap (TakesCode 10 bytes) total bytes x fits e (λ n rest t is. record { code_is = refl; takes = t; ranges = is }))
     (λ most. from_11_takes code total bytes x fits most high)))
 
-abbrev code_from_5 : ℕ → ℕ → List ℕ → Result (Refusal × List ℕ) WireFault
+abbrev code_from_5 : ℕ → ℕ → List ℕ → Read Refusal
 code_from_5 code total bytes = cond (eqb code 5) (past_at total bytes) (cond (eqb code 6) (named_at Clash total bytes) (cond (eqb code 7) (named_at Unfinished total bytes) (later_code_at code total bytes)))
 
 from_5_takes : (code total : ℕ) (bytes : List ℕ) (x : Refusal × List ℕ) → IsBytes bytes → 5 ≤ code → code ≤ 14 → code_from_5 code total bytes ≡ Ok x → TakesCode code bytes x
@@ -119,7 +118,7 @@ from_5_takes code total bytes x fits low high =
     (λ e. named_takes Unfinished (TakesCode 7 bytes) total bytes x fits e (λ name rest t is. record { code_is = refl; takes = t; ranges = is }))
     (λ most. later_takes code total bytes x fits most high)))
 
-abbrev code_from_3 : ℕ → ℕ → List ℕ → Result (Refusal × List ℕ) WireFault
+abbrev code_from_3 : ℕ → ℕ → List ℕ → Read Refusal
 code_from_3 code total bytes = cond (eqb code 3) (retained_at total bytes) (cond (eqb code 4) (member_at total bytes) (code_from_5 code total bytes))
 
 from_3_takes : (code total : ℕ) (bytes : List ℕ) (x : Refusal × List ℕ) → IsBytes bytes → 3 ≤ code → code ≤ 14 → code_from_3 code total bytes ≡ Ok x → TakesCode code bytes x
@@ -130,15 +129,10 @@ from_3_takes code total bytes x fits low high =
     (member_takes total bytes x fits)
     (λ most. from_5_takes code total bytes x fits most high))
 
-code_range : (n : ℕ) → is_code n ≡ true → (1 ≤ n) × (n ≤ 14)
-code_range n e =
-    let p = both_true (leb 1 n) (leb n 14) e in
-    (leb-true 1 n p.0, leb-true n 14 p.1)
-
 code_takes : (code total : ℕ) (bytes : List ℕ) (x : Refusal × List ℕ) → IsBytes bytes → is_code code ≡ true → code_at code total bytes ≡ Ok x → TakesCode code bytes x
 unfolding code_at
 code_takes code total bytes x fits known e =
-    let r = code_range code known in
+    let r = in_range 1 14 code known in
     by_number code 1 (λ n. TakesCode n bytes x) (Ok (NoFolder, bytes)) (cond (eqb code 2) (shape_at total bytes) (code_from_3 code total bytes)) x r.0
     (λ got. no_fields 1 bytes NoFolder x fits refl refl tt (ok_is (NoFolder, bytes) x got))
     (λ more. by_number code 2 (λ n. TakesCode n bytes x) (shape_at total bytes) (code_from_3 code total bytes) x more
@@ -168,10 +162,10 @@ fields_again : (total : ℕ) (r : Refusal) (rest : List ℕ) → IsRefusal r →
 unfolding code_at later_code_at shape_at retained_at member_at past_at role_at
 fields_again total NoFolder rest is = refl
 fields_again total (ShapeWrong depth probes) rest is =
-    rw (byte_again is_depth total depth (probes ∷ rest) (depth_met depth is.0 is.1), byte_again is_probes total probes rest (probes_met probes is.2 is.3)) refl
+    rw (byte_again is_depth total depth (probes ∷ rest) (range_met 8 11 depth is.0 is.1), byte_again is_probes total probes rest (range_met 1 8 probes is.2 is.3)) refl
 fields_again total (Unretained oldest newest) rest is =
     ap (retained_at total) (append_assoc (four oldest) (four newest) rest)
-    ∙ rw (tested_again w32 (2 ^ 32) wide32 is_count total oldest (four newest ++ rest) (omega (arith, is.0)) (le-leb oldest 1048576 is.0), tested_again w32 (2 ^ 32) wide32 is_count total newest rest (omega (arith, is.1)) (le-leb newest 1048576 is.1)) refl
+    ∙ rw (tested_again w32 (2 ^ 32) wide32 is_count total oldest (four newest ++ rest) (omega (arith, is.0)) (range_met 0 1048576 oldest (omega arith) is.0), tested_again w32 (2 ^ 32) wide32 is_count total newest rest (omega (arith, is.1)) (range_met 0 1048576 newest (omega arith) is.1)) refl
 fields_again total (BadMember member) rest is = rw (number_again w32 (2 ^ 32) wide32 total member.0 rest is) refl
 fields_again total (Past last) rest is = rw (number_again w64 (2 ^ 64) wide64 total last rest is) refl
 fields_again total (Clash name) rest is = named_again Clash total name rest is

@@ -1,18 +1,20 @@
 -- The two laws of replies: what is read is spelled so, and what is spelled so is read.
-use Rattle.std.proofs.Common.{◌≡◌, ℕ, suc, ◌≤◌, true, cond, eqb, leb, List, [], ◌∷◌, ◌++◌, length, Result, Ok, Err, refl, sym, ap, subst, ◌∙◌}
+use Rattle.std.proofs.Common.{◌≡◌, ℕ, suc, ◌≤◌, true, cond, eqb, List, [], ◌∷◌, ◌++◌, length, Result, Ok, Err, refl, sym, ap, subst, ◌∙◌}
 use Rattle.std.specs.Prelude.{IfOk}
-use Rattle.std.proofs.lemmas.Bool.{leb-true}
 use Rattle.std.proofs.lemmas.List.{append-nil}
 use Rattle.dory_base.specs.declared.ids.AskId.{AskId}
+use Rattle.dory_fields.specs.Reading.{Read, ◌>>=◌}
+use Rattle.dory_fields.specs.Bytes.{IsBytes}
+use Rattle.dory_fields.proofs.Fields.{in_range, IsBytes-rest, bind_ok, ok_is, Takes, Takes-then}
 use Rattle.dory_wire.specs.declared.message.What.{What}
 use Rattle.dory_wire.specs.declared.message.What.TheVariants.{At, Found as Finds, Id, Staged, Committed, Refused}
 use Rattle.dory_wire.specs.declared.message.Reply.{Reply}
 use Rattle.dory_wire.specs.declared.fault.WireFault.{WireFault}
 use Rattle.dory_wire.specs.declared.fault.WireFault.TheVariants.{Kind}
 use Rattle.dory_wire.specs.Spelling.{ask, what, what_kind, spelling_of_reply, IsWhat, IsReply}
-use Rattle.dory_wire.specs.Reading.{◌>>=◌, Gives, ask_at, found_at, refusal_at, named_at, numbered_at, counted_at, holding_at, refused_at, what_at, ended, reply_at, reply_of, is_answering}
-use Rattle.dory_wire.proofs.Fields.{IsBytes, IsBytes-rest, bind_ok, ok_is, Takes, Takes-then, ask_takes, ask_again}
-use Rattle.dory_wire.proofs.Ranges.{both_true, ended_ok, choice_met}
+use Rattle.dory_wire.specs.Reading.{Gives, ask_at, found_at, refusal_at, named_at, numbered_at, counted_at, holding_at, refused_at, what_at, ended, reply_at, reply_of, is_answering}
+use Rattle.dory_wire.proofs.Fields.{ask_takes, ask_again}
+use Rattle.dory_wire.proofs.Ranges.{ended_ok, choice_met}
 use Rattle.dory_wire.proofs.Made.{named_takes, named_again, numbered_takes, numbered_again, counted_takes, counted_again, by_number, at_last}
 use Rattle.dory_wire.proofs.Holding.{found_takes, found_again}
 use Rattle.dory_wire.proofs.Refusing.{refusal_takes, refusal_again}
@@ -37,10 +39,10 @@ refused_takes total bytes x fits e =
     let t0 = refusal_takes total bytes a.0 fits a.1 in
     subst (TakesWhat 134 bytes) (ok_is (Refused a.0.0, a.0.1) x a.2) (record { kind_is = refl; takes = t0.0; ranges = t0.1 })
 
-abbrev what_from_132 : ℕ → ℕ → List ℕ → Result (What × List ℕ) WireFault
+abbrev what_from_132 : ℕ → ℕ → List ℕ → Read What
 what_from_132 kind total bytes = cond (eqb kind 132) (named_at Staged total bytes) (cond (eqb kind 133) (numbered_at Committed total bytes) (refused_at total bytes))
 
-abbrev what_from_130 : ℕ → ℕ → List ℕ → Result (What × List ℕ) WireFault
+abbrev what_from_130 : ℕ → ℕ → List ℕ → Read What
 what_from_130 kind total bytes = cond (eqb kind 130) (holding_at total bytes) (cond (eqb kind 131) (numbered_at Id total bytes) (what_from_132 kind total bytes))
 
 from_132_takes : (kind total : ℕ) (bytes : List ℕ) (x : What × List ℕ) → IsBytes bytes → 132 ≤ kind → kind ≤ 134 → what_from_132 kind total bytes ≡ Ok x → TakesWhat kind bytes x
@@ -59,15 +61,10 @@ from_130_takes kind total bytes x fits low high =
     (λ e. numbered_takes Id (TakesWhat 131 bytes) total bytes x fits e (λ number name rest t is. record { kind_is = refl; takes = t; ranges = is }))
     (λ most. from_132_takes kind total bytes x fits most high))
 
-answering_range : (kind : ℕ) → is_answering kind ≡ true → (129 ≤ kind) × (kind ≤ 134)
-answering_range kind e =
-    let p = both_true (leb 129 kind) (leb kind 134) e in
-    (leb-true 129 kind p.0, leb-true kind 134 p.1)
-
 what_takes : (kind total : ℕ) (bytes : List ℕ) (x : What × List ℕ) → IsBytes bytes → is_answering kind ≡ true → what_at kind total bytes ≡ Ok x → TakesWhat kind bytes x
 unfolding what_at
 what_takes kind total bytes x fits known e =
-    let r = answering_range kind known in
+    let r = in_range 129 134 kind known in
     by_number kind 129 (λ n. TakesWhat n bytes x) (counted_at At total bytes) (what_from_130 kind total bytes) x r.0
     (λ got. counted_takes At (TakesWhat 129 bytes) total bytes x fits got (λ n rest t is. record { kind_is = refl; takes = t; ranges = is }))
     (λ more. from_130_takes kind total bytes x fits more r.1) e
@@ -86,31 +83,41 @@ what_again total (Refused code) rest is = rw (refusal_again total code rest is) 
 abbrev made_reply : AskId → What → Reply
 made_reply a w = record { ask = a; what = w }
 
-abbrev after_ask : ℕ → ℕ → AskId × List ℕ → Result Reply WireFault
-after_ask kind total a = what_at kind total a.1 >>= λ what. ended (made_reply a.0 what.0) total what.1
+abbrev after_ask : ℕ → ℕ → AskId × List ℕ → Read Reply
+after_ask kind total a = what_at kind total a.1 >>= λ what. Ok (made_reply a.0 what.0, what.1)
 
-reply_at_takes : (kind total : ℕ) (bytes : List ℕ) (r : Reply) → IsBytes bytes → is_answering kind ≡ true → reply_at kind total bytes ≡ Ok r
-    → (kind ∷ bytes ≡ spelling_of_reply r) × IsReply r
-unfolding reply_at spelling_of_reply
-reply_at_takes kind total bytes r fits known e =
-    let a = bind_ok (ask_at total bytes) (after_ask kind total) r e in
-    let b = bind_ok (what_at kind total a.0.1) (λ what. ended (made_reply a.0.0 what.0) total what.1) r a.2 in
+-- a reply's bytes behind its kind
+abbrev reply_fields : Reply → List ℕ
+reply_fields r = ask r.ask ++ what r.what
+
+-- what was read behind this kind
+record TakesReply (kind : ℕ) (bytes : List ℕ) (x : Reply × List ℕ) : Type 0 where
+  pub kind_is : what_kind x.0.what ≡ kind
+  pub takes : Takes bytes (reply_fields x.0) x.1
+  pub ranges : IsReply x.0
+
+reply_at_takes : (kind total : ℕ) (bytes : List ℕ) (x : Reply × List ℕ) → IsBytes bytes → is_answering kind ≡ true → reply_at kind total bytes ≡ Ok x → TakesReply kind bytes x
+unfolding reply_at
+reply_at_takes kind total bytes x fits known e =
+    let a = bind_ok (ask_at total bytes) (after_ask kind total) x e in
+    let b = bind_ok (what_at kind total a.0.1) (λ what. Ok (made_reply a.0.0 what.0, what.1)) x a.2 in
     let t0 = ask_takes total bytes a.0 fits a.1 in
     let t1 = what_takes kind total a.0.1 b.0 t0.0.rest_fits known b.1 in
-    let g = ended_ok (made_reply a.0.0 b.0.0) total b.0.1 r b.2 in
     let p1 = Takes-then bytes (ask a.0.0) a.0.1 (what b.0.0) b.0.1 t0.0 t1.takes in
-    let text : bytes ≡ ask a.0.0 ++ what b.0.0 = p1.parts ∙ ap (λ (z : List ℕ). (ask a.0.0 ++ what b.0.0) ++ z) g.0 ∙ append-nil (ask a.0.0 ++ what b.0.0) in
-    let whole : kind ∷ bytes ≡ spelling_of_reply (made_reply a.0.0 b.0.0) = (λ i. sym t1.kind_is i ∷ text i) in
     let is : IsReply (made_reply a.0.0 b.0.0) = record { ask = t0.1; what = t1.ranges } in
-    subst (λ (y : Reply). (kind ∷ bytes ≡ spelling_of_reply y) × IsReply y) g.1 (whole, is)
+    subst (TakesReply kind bytes) (ok_is (made_reply a.0.0 b.0.0, b.0.1) x b.2) (record { kind_is = t1.kind_is; takes = p1; ranges = is })
 
 -- what is read of a message is spelled so, and is in range
 pub reply_takes : (bytes : List ℕ) (r : Reply) → IsBytes bytes → reply_of bytes ≡ Ok r → (bytes ≡ spelling_of_reply r) × IsReply r
-unfolding reply_of
+unfolding reply_of spelling_of_reply
 reply_takes [] r fits e = absurd cc
 reply_takes (kind ∷ bytes) r fits e =
-    let g = choice_met (is_answering kind) (Kind kind) (reply_at kind (suc (length bytes)) bytes) r e in
-    reply_at_takes kind (suc (length bytes)) bytes r (IsBytes-rest kind bytes fits) g.0 g.1
+    let total = suc (length bytes) in
+    let g = choice_met (is_answering kind) (Kind kind) (ended total (reply_at kind total bytes)) r e in
+    let h = ended_ok total (reply_at kind total bytes) r g.1 in
+    let t = reply_at_takes kind total bytes (r, h.0) (IsBytes-rest kind bytes fits) g.0 h.1 in
+    let text : bytes ≡ reply_fields r = t.takes.parts ∙ ap (λ (z : List ℕ). reply_fields r ++ z) h.2 ∙ append-nil (reply_fields r) in
+    ((λ i. sym t.kind_is i ∷ text i), t.ranges)
 
 known_kind : (w : What) → is_answering (what_kind w) ≡ true
 known_kind (At length) = refl
@@ -120,7 +127,7 @@ known_kind (Staged name) = refl
 known_kind (Committed number name) = refl
 known_kind (Refused code) = refl
 
-reply_at_again : (total : ℕ) (r : Reply) → IsReply r → reply_at (what_kind r.what) total (ask r.ask ++ (what r.what ++ [])) ≡ Ok r
+reply_at_again : (total : ℕ) (r : Reply) → IsReply r → reply_at (what_kind r.what) total (ask r.ask ++ (what r.what ++ [])) ≡ Ok (r, [])
 unfolding reply_at
 reply_at_again total r is = rw (ask_again total r.ask (what r.what ++ []) is.ask, what_again total r.what [] is.what) refl
 
@@ -130,7 +137,7 @@ unfolding reply_of spelling_of_reply
 read_again_reply r is =
     let text : ask r.ask ++ what r.what ≡ ask r.ask ++ (what r.what ++ []) = ap (λ (z : List ℕ). ask r.ask ++ z) (sym (append-nil (what r.what))) in
     let total = suc (length (ask r.ask ++ what r.what)) in
-    rw (known_kind r.what) (ap (reply_at (what_kind r.what) total) text ∙ reply_at_again total r is)
+    rw (known_kind r.what) (ap (λ (z : List ℕ). ended total (reply_at (what_kind r.what) total z)) text ∙ ap (ended total) (reply_at_again total r is))
 
 -- so is what a call gives that gives what reading gives
 pub reply_spelled : (bytes : List ℕ) (result : Result Reply WireFault) → IsBytes bytes → Gives result (reply_of bytes) → IfOk result (λ r. IsReply r × (bytes ≡ spelling_of_reply r))

@@ -1,50 +1,24 @@
 -- An update that is to be staged is read as it is spelled.
-use Rattle.std.proofs.Common.{◌≡◌, ◌∙◌, ℕ, zero, suc, ◌^◌, ◌<◌, ◌≤◌, Bool, true, leb, List, [], ◌∷◌, ◌++◌, length, Result, Ok, refl, sym, ap, subst, append_assoc}
-use Rattle.std.specs.List.{flat_map, AllByRecursion}
+use Rattle.std.proofs.Common.{◌≡◌, ◌∙◌, ℕ, ◌^◌, Bool, true, List, [], ◌∷◌, ◌++◌, length, Ok, refl, sym, ap, subst, append_assoc}
+use Rattle.std.specs.List.{flat_map}
 use Rattle.std.specs.Int.{w32}
-use Rattle.std.proofs.lemmas.Bool.{leb-true}
-use Rattle.std.proofs.lemmas.List.Concat.{flat_map-cons}
 use Rattle.dory_base.specs.Dims.{Dims, IsDims}
-use Rattle.dory_base.specs.TagBytes.{tag_number, tag_bytes, tag_bytes-tag_number, tag_number_small, IsTagBytes}
+use Rattle.dory_base.specs.TagBytes.{tag_bytes}
 use Rattle.dory_base.specs.declared.ids.UpdateId.{UpdateId}
 use Rattle.dory_base.specs.declared.entry.Entry.{Entry}
 use Rattle.dory_base.specs.declared.entry.Change.{Change}
 use Rattle.dory_base.specs.declared.entry.Change.TheVariants.{Post, Remove}
 use Rattle.dory_base.specs.History.{IsPostOf}
-use Rattle.dory_wire.specs.declared.fault.WireFault.{WireFault}
-use Rattle.dory_wire.specs.Spelling.{four, id, packed, change, entry, IsPost, IsChange, IsEntry}
-use Rattle.dory_wire.specs.Reading.{◌>>=◌, field_at, number_at, byte_at, id_at, bits_at, tags_at, post_at, change_at, entry_at, is_depth, is_probes, is_change}
-use Rattle.dory_wire.proofs.Fields.{IsBytes, bind_ok, ok_is, Takes, Takes-then, wide32, field_takes, field_again, number_takes, number_again, byte_takes, byte_again, id_takes, id_again}
-use Rattle.dory_wire.proofs.Ranges.{both_true, depth_range, probes_range, depth_met, probes_met}
-use Rattle.dory_wire.proofs.Packing.{bits_take, bits_again}
-use Rattle.dory_wire.proofs.Holding.{length-tag_bytes, tag_again}
+use Rattle.dory_fields.specs.Bytes.{four, IsBytes}
+use Rattle.dory_fields.specs.Packing.{packed}
+use Rattle.dory_fields.specs.Reading.{Read, many_at, ◌>>=◌, number_at, byte_at, bits_at}
+use Rattle.dory_fields.proofs.Many.{many_take, many_again}
+use Rattle.dory_fields.proofs.Fields.{in_range, range_met, bind_ok, ok_is, Takes, Takes-then, wide32, number_takes, number_again, byte_takes, byte_again}
+use Rattle.dory_fields.proofs.Packing.{bits_take, bits_again}
+use Rattle.dory_wire.specs.Spelling.{id, change, entry, IsPost, IsChange, IsEntry}
+use Rattle.dory_wire.specs.Reading.{tag_at, id_at, post_at, change_at, entry_at, is_depth, is_probes, is_change}
+use Rattle.dory_wire.proofs.Fields.{IsTag, tag_takes, tag_read_again, id_takes, id_again}
 use Rattle.dory_wire.proofs.Made.{by_number, at_last}
-
-pub tags_take : (n total : ℕ) (bytes : List ℕ) (x : List ℕ × List ℕ) → IsBytes bytes → tags_at n total bytes ≡ Ok x
-    → Takes bytes (flat_map tag_bytes x.0) x.1 × (length x.0 ≡ n) × AllByRecursion (λ t. t < 2 ^ 128) x.0
-unfolding tags_at
-tags_take zero total bytes x fits e =
-    subst (λ (y : List ℕ × List ℕ). Takes bytes (flat_map tag_bytes y.0) y.1 × (length y.0 ≡ 0) × AllByRecursion (λ t. t < 2 ^ 128) y.0) (ok_is ([], bytes) x e) (record { parts = refl; rest_fits = fits }, refl, tt)
-tags_take (suc n) total bytes x fits e =
-    let a = bind_ok (field_at 16 total bytes) (λ tag. tags_at n total tag.1 >>= λ more. Ok (tag_number tag.0 ∷ more.0, more.1)) x e in
-    let b = bind_ok (tags_at n total a.0.1) (λ more. Ok (tag_number a.0.0 ∷ more.0, more.1)) x a.2 in
-    let first = field_takes 16 total bytes a.0.0 a.0.1 fits a.1 in
-    let are : IsTagBytes a.0.0 = record { sixteen = first.1; small = first.2 } in
-    let text : tag_bytes (tag_number a.0.0) ≡ a.0.0 = tag_bytes-tag_number a.0.0 are in
-    let one : Takes bytes (tag_bytes (tag_number a.0.0)) a.0.1 = subst (λ (y : List ℕ). Takes bytes y a.0.1) (sym text) first.0 in
-    let second = tags_take n total a.0.1 b.0 first.0.rest_fits b.1 in
-    let both = Takes-then bytes (tag_bytes (tag_number a.0.0)) a.0.1 (flat_map tag_bytes b.0.0) b.0.1 one second.0 in
-    let made : List ℕ × List ℕ = (tag_number a.0.0 ∷ b.0.0, b.0.1) in
-    subst (λ (y : List ℕ × List ℕ). Takes bytes (flat_map tag_bytes y.0) y.1 × (length y.0 ≡ suc n) × AllByRecursion (λ t. t < 2 ^ 128) y.0) (ok_is made x b.2)
-    (rw flat_map-cons both, ap suc second.1, (tag_number_small a.0.0 are, second.2))
-
-pub tags_again : (total : ℕ) (ts : List ℕ) (rest : List ℕ) → AllByRecursion (λ t. t < 2 ^ 128) ts → tags_at (length ts) total (flat_map tag_bytes ts ++ rest) ≡ Ok (ts, rest)
-unfolding tags_at
-tags_again total [] rest are = refl
-tags_again total (t ∷ ts) rest are =
-    let regrouped : flat_map tag_bytes (t ∷ ts) ++ rest ≡ tag_bytes t ++ (flat_map tag_bytes ts ++ rest) = ap (λ (x : List ℕ). x ++ rest) (flat_map-cons tag_bytes t ts) ∙ append_assoc (tag_bytes t) (flat_map tag_bytes ts) rest in
-    ap (tags_at (suc (length ts)) total) regrouped
-    ∙ rw (field_again 16 total (tag_bytes t) (flat_map tag_bytes ts ++ rest) (length-tag_bytes t), tags_again total ts rest are.1) (ap (λ (n : ℕ). Ok (n ∷ ts, rest)) (tag_again t are.0))
 
 -- ---- what an update does
 
@@ -58,13 +32,13 @@ pub record TakesChange (does : ℕ) (bytes : List ℕ) (x : Change × List ℕ) 
 abbrev shape_of : ℕ → ℕ → Dims
 shape_of depth probes = record { depth = depth; probes = probes }
 
-abbrev after_row : ℕ → (depth probes : ℕ) → List Bool × List ℕ → Result (Change × List ℕ) WireFault
-after_row total depth probes row = tags_at (2 ^ depth) total row.1 >>= λ tags. Ok (Post (shape_of depth probes) row.0 tags.0, tags.1)
+abbrev after_row : ℕ → (depth probes : ℕ) → List Bool × List ℕ → Read Change
+after_row total depth probes row = many_at tag_at (2 ^ depth) total row.1 >>= λ tags. Ok (Post (shape_of depth probes) row.0 tags.0, tags.1)
 
-abbrev after_probes : ℕ → ℕ → ℕ × List ℕ → Result (Change × List ℕ) WireFault
+abbrev after_probes : ℕ → ℕ → ℕ × List ℕ → Read Change
 after_probes total depth probes = bits_at (2 ^ depth) total probes.1 >>= λ row. after_row total depth probes.0 row
 
-abbrev after_depth : ℕ → ℕ × List ℕ → Result (Change × List ℕ) WireFault
+abbrev after_depth : ℕ → ℕ × List ℕ → Read Change
 after_depth total depth = byte_at is_probes total depth.1 >>= λ probes. after_probes total depth.0 probes
 
 post_takes : (total : ℕ) (bytes : List ℕ) (x : Change × List ℕ) → IsBytes bytes → post_at total bytes ≡ Ok x → TakesChange 1 bytes x
@@ -73,17 +47,17 @@ post_takes total bytes x fits e =
     let a = bind_ok (byte_at is_depth total bytes) (after_depth total) x e in
     let b = bind_ok (byte_at is_probes total a.0.1) (after_probes total a.0.0) x a.2 in
     let c = bind_ok (bits_at (2 ^ a.0.0) total b.0.1) (after_row total a.0.0 b.0.0) x b.2 in
-    let d = bind_ok (tags_at (2 ^ a.0.0) total c.0.1) (λ tags. Ok (Post (shape_of a.0.0 b.0.0) c.0.0 tags.0, tags.1)) x c.2 in
+    let d = bind_ok (many_at tag_at (2 ^ a.0.0) total c.0.1) (λ tags. Ok (Post (shape_of a.0.0 b.0.0) c.0.0 tags.0, tags.1)) x c.2 in
     let t0 = byte_takes is_depth total bytes a.0.0 a.0.1 fits a.1 in
     let t1 = byte_takes is_probes total a.0.1 b.0.0 b.0.1 t0.0.rest_fits b.1 in
     let t2 = bits_take (2 ^ a.0.0) total b.0.1 c.0 t1.0.rest_fits c.1 in
-    let t3 = tags_take (2 ^ a.0.0) total c.0.1 d.0 t2.0.rest_fits d.1 in
+    let t3 = many_take tag_at tag_bytes IsTag tag_takes (2 ^ a.0.0) total c.0.1 d.0 t2.0.rest_fits d.1 in
     let p2 = Takes-then b.0.1 (packed c.0.0) c.0.1 (flat_map tag_bytes d.0.0) d.0.1 t2.0 t3.0 in
     let p1 = Takes-then a.0.1 (b.0.0 ∷ []) b.0.1 (packed c.0.0 ++ flat_map tag_bytes d.0.0) d.0.1 t1.0 p2 in
     let p0 = Takes-then bytes (a.0.0 ∷ []) a.0.1 (b.0.0 ∷ packed c.0.0 ++ flat_map tag_bytes d.0.0) d.0.1 t0.0 p1 in
     let shape = shape_of a.0.0 b.0.0 in
-    let depth = depth_range a.0.0 t0.1 in
-    let probes = probes_range b.0.0 t1.1 in
+    let depth = in_range 8 11 a.0.0 t0.1 in
+    let probes = in_range 1 8 b.0.0 t1.1 in
     let dims : IsDims shape = record { low = depth.0; high = depth.1; some = probes.0; few = probes.1 } in
     let cells : IsPostOf shape shape (length c.0.0) (length d.0.0) = record { shape_is = refl; row = t2.1; tags_are = t3.1 } in
     let made : Change × List ℕ = (Post shape c.0.0 d.0.0, d.0.1) in
@@ -99,21 +73,16 @@ unfolding post_at
 post_again total shape row tags rest is =
     let r2 = flat_map tag_bytes tags ++ rest in
     let r1 = packed row ++ r2 in
-    let depth = byte_again is_depth total shape.depth (shape.probes ∷ r1) (depth_met shape.depth is.dims.low is.dims.high) in
-    let probes = byte_again is_probes total shape.probes r1 (probes_met shape.probes is.dims.some is.dims.few) in
+    let depth = byte_again is_depth total shape.depth (shape.probes ∷ r1) (range_met 8 11 shape.depth is.dims.low is.dims.high) in
+    let probes = byte_again is_probes total shape.probes r1 (range_met 1 8 shape.probes is.dims.some is.dims.few) in
     let cells = bits_again (2 ^ shape.depth) total row r2 is.cells.row in
-    let many : tags_at (2 ^ shape.depth) total r2 ≡ Ok (tags, rest) = subst (λ (n : ℕ). tags_at n total r2 ≡ Ok (tags, rest)) is.cells.tags_are (tags_again total tags rest is.wide) in
+    let many : many_at tag_at (2 ^ shape.depth) total r2 ≡ Ok (tags, rest) = subst (λ (n : ℕ). many_at tag_at n total r2 ≡ Ok (tags, rest)) is.cells.tags_are (many_again tag_at tag_bytes IsTag total (tag_read_again total) tags rest is.wide) in
     rw (depth, probes, cells, many) refl
-
-change_range : (n : ℕ) → is_change n ≡ true → (1 ≤ n) × (n ≤ 2)
-change_range n e =
-    let p = both_true (leb 1 n) (leb n 2) e in
-    (leb-true 1 n p.0, leb-true n 2 p.1)
 
 change_takes : (does total : ℕ) (bytes : List ℕ) (x : Change × List ℕ) → IsBytes bytes → is_change does ≡ true → change_at does total bytes ≡ Ok x → TakesChange does bytes x
 unfolding change_at
 change_takes does total bytes x fits known e =
-    let r = change_range does known in
+    let r = in_range 1 2 does known in
     by_number does 1 (λ n. TakesChange n bytes x) (post_at total bytes) (Ok (Remove, bytes)) x r.0 (post_takes total bytes x fits) (λ more got.
     at_last does 2 (λ n. TakesChange n bytes x) more r.1 (subst (TakesChange 2 bytes) (ok_is (Remove, bytes) x got) (record { fields = []; text = refl; takes = record { parts = refl; rest_fits = fits }; ranges = tt }))) e
 
@@ -122,13 +91,13 @@ change_takes does total bytes x fits known e =
 abbrev entry_of : UpdateId → ℕ → Change → Entry
 entry_of name doc done = record { id = name; doc = record { 0 = doc }; change = done }
 
-abbrev after_does : ℕ → UpdateId → ℕ → ℕ × List ℕ → Result (Entry × List ℕ) WireFault
+abbrev after_does : ℕ → UpdateId → ℕ → ℕ × List ℕ → Read Entry
 after_does total name doc does = change_at does.0 total does.1 >>= λ change. Ok (entry_of name doc change.0, change.1)
 
-abbrev after_doc : ℕ → UpdateId → ℕ × List ℕ → Result (Entry × List ℕ) WireFault
+abbrev after_doc : ℕ → UpdateId → ℕ × List ℕ → Read Entry
 after_doc total name doc = byte_at is_change total doc.1 >>= λ does. after_does total name doc.0 does
 
-abbrev after_name : ℕ → UpdateId × List ℕ → Result (Entry × List ℕ) WireFault
+abbrev after_name : ℕ → UpdateId × List ℕ → Read Entry
 after_name total name = number_at w32 total name.1 >>= λ doc. after_doc total name.0 doc
 
 pub entry_takes : (total : ℕ) (bytes : List ℕ) (x : Entry × List ℕ) → IsBytes bytes → entry_at total bytes ≡ Ok x → Takes bytes (entry x.0) x.1 × IsEntry x.0

@@ -1,6 +1,6 @@
 -- Reading a message from left to right, field by field, up to the first fault.
-use Rattle.std.specs.Prelude.{ℕ, zero, suc, ◌≡◌, ◌+◌, ◌-◌, ◌/◌, ◌%◌, ◌==◌, ◌^◌, nat_lt, nat_le, Bool, true, false, not, ◌&&◌, if◌then◌else◌, List, [], ◌∷◌, ◌++◌, length, take, drop, Option, Some, None, Result, Ok, Err}
-use Rattle.std.specs.Int.{Width, w16, w32, w64, byte_len, from_be_bytes}
+use Rattle.std.specs.Prelude.{ℕ, zero, suc, ◌≡◌, ◌+◌, ◌%◌, ◌==◌, ◌^◌, nat_le, Bool, if◌then◌else◌, List, [], ◌∷◌, length, take, drop, Option, Some, None, Result, Ok, Err}
+use Rattle.std.specs.Int.{w16, w32, w64, from_be_bytes, is_in_range}
 use Rattle.dory_base.specs.TagBytes.{tag_number}
 use Rattle.dory_base.specs.declared.ids.AskId.{AskId}
 use Rattle.dory_base.specs.declared.ids.UpdateId.{UpdateId}
@@ -14,6 +14,9 @@ use Rattle.dory_base.specs.declared.found.Sum.{Sum}
 use Rattle.dory_base.specs.declared.found.Found.{Found}
 use Rattle.dory_base.specs.declared.refusal.Refusal.{Refusal}
 use Rattle.dory_base.specs.declared.refusal.Refusal.TheVariants.{NoFolder, ShapeWrong, Unretained, BadMember, Past, Clash, Unfinished, Unstaged, Taken, Gap, WrongRole, HistoryFull, NoEntry, NoMemory as OutOfMemory}
+use Rattle.dory_fields.specs.declared.fault.FieldFault.{FieldFault}
+use Rattle.dory_fields.specs.declared.fault.FieldFault.TheVariants.{CutShort, OutOfRange, NoMemory as FieldNoMemory}
+use Rattle.dory_fields.specs.Reading.{◌>>=◌, Read, place, field_at, ranged, number_at, tested_at, byte_at, bits_at, many_at}
 use Rattle.dory_dpf.specs.declared.tree.Correction.{Correction}
 use Rattle.dory_dpf.specs.PointKey.{PointKey, levels_of}
 use Rattle.dory_wire.specs.declared.message.Want.{Want}
@@ -24,14 +27,7 @@ use Rattle.dory_wire.specs.declared.message.Request.{Request}
 use Rattle.dory_wire.specs.declared.message.Reply.{Reply}
 use Rattle.dory_wire.specs.declared.fault.WireFault.{WireFault}
 use Rattle.dory_wire.specs.declared.fault.WireFault.TheVariants.{Kind, Body, Trailing, NoMemory}
-use Rattle.dory_wire.specs.Spelling.{packed_len}
 use Rattle.dory_wire.specs.Frame.{message_in}
-
-infixl 10 ◌>>=◌
--- go on with what was read, or stop at the fault
-abbrev pub ◌>>=◌ : {A B : Type 0} → Result A WireFault → (A → Result B WireFault) → Result B WireFault
-(Ok x) >>= f = f x
-(Err e) >>= f = Err e
 
 -- a fault is the one that reading finds, and memory may run out
 abbrev pub Fails : {Y : Type 0} → WireFault → Result Y WireFault → Type 0
@@ -40,105 +36,69 @@ Fails (Kind b) read = read ≡ Err (Kind b)
 Fails (Body at) read = read ≡ Err (Body at)
 Fails (Trailing at) read = read ≡ Err (Trailing at)
 
--- what a field's reader returned, seen by view, is what reading gives, unless memory ran out
-abbrev pub GivesBy : {X Y : Type 0} → (X → Y) → Result X WireFault → Result Y WireFault → Type 0
-GivesBy view (Ok x) read = read ≡ Ok (view x)
-GivesBy view (Err e) read = Fails e read
-
 -- unless memory runs out, a decoder gives what reading gives
 abbrev pub Gives : {Y : Type 0} → Result Y WireFault → Result Y WireFault → Type 0
 Gives (Ok x) read = read ≡ Ok x
 Gives (Err e) read = Fails e read
 
--- how many bytes of a message of `total` bytes stand before what is left to read
-abbrev pub place : ℕ → List ℕ → ℕ
-place total bytes = total - length bytes
-
--- a field of so many bytes; a fault names its first byte where it is cut short
-abbrev pub field_at : ℕ → ℕ → List ℕ → Result (List ℕ × List ℕ) WireFault
-field_at n total bytes = if nat_lt (length bytes) n then Err (Body (place total bytes)) else Ok (take n bytes, drop n bytes)
-
--- a field's value where it is in range; else a fault at the field's first byte
-abbrev pub ranged : {A : Type 0} → ℕ → List ℕ → Bool → A → Result A WireFault
-ranged total bytes true x = Ok x
-ranged total bytes false x = Err (Body (place total bytes))
-
--- a number of this width
-unfoldable pub number_at : Width → ℕ → List ℕ → Result (ℕ × List ℕ) WireFault
-number_at w total bytes =
-    if nat_lt (length bytes) (byte_len w)
-    then Err (Body (place total bytes))
-    else Ok (from_be_bytes w (take (byte_len w) bytes), drop (byte_len w) bytes)
-
--- a number of this width that meets a test
-unfoldable pub tested_at : Width → (ℕ → Bool) → ℕ → List ℕ → Result (ℕ × List ℕ) WireFault
-tested_at w test total bytes = do
-  n ← number_at w total bytes
-  ranged total bytes (test n.0) n
-
--- a byte that meets a test
-unfoldable pub byte_at : (ℕ → Bool) → ℕ → List ℕ → Result (ℕ × List ℕ) WireFault
-byte_at test total [] = Err (Body (place total []))
-byte_at test total (b ∷ rest) = ranged total (b ∷ rest) (test b) (b, rest)
-
 -- a version or a length of a history
 abbrev pub is_count : ℕ → Bool
-is_count n = nat_le n 1048576
+is_count = is_in_range 0 1048576
 
 -- the number of an entry
 abbrev pub is_number : ℕ → Bool
-is_number n = nat_le 1 n && nat_le n 1048576
+is_number = is_in_range 1 1048576
 
 -- the depth of a shape
 abbrev pub is_depth : ℕ → Bool
-is_depth n = nat_le 8 n && nat_le n 11
+is_depth = is_in_range 8 11
 
 -- how many probes a shape has
 abbrev pub is_probes : ℕ → Bool
-is_probes n = nat_le 1 n && nat_le n 8
+is_probes = is_in_range 1 8
 
 -- how many sums there are
 abbrev pub is_few : ℕ → Bool
-is_few n = nat_le n 8
+is_few = is_in_range 0 8
 
 -- how many lines a manifest has
 abbrev pub is_lines : ℕ → Bool
-is_lines n = nat_le n 4096
+is_lines = is_in_range 0 4096
 
 -- the form of keys: 1, or 2 for the shorter ones
 abbrev pub is_form : ℕ → Bool
-is_form n = nat_le 1 n && nat_le n 2
+is_form = is_in_range 1 2
 
 -- the depth of a key, which is that of the shape
 abbrev pub is_depth_of : ℕ → ℕ → Bool
-is_depth_of depth n = n == depth
+is_depth_of depth = is_in_range depth depth
 
 -- the party of a key
 abbrev pub is_party : ℕ → Bool
-is_party n = nat_le n 1
+is_party = is_in_range 0 1
 
 -- the control bits of a correction: the left one is the lowest, and the right one the next
 abbrev pub is_control : ℕ → Bool
-is_control n = nat_le n 3
+is_control = is_in_range 0 3
 
 -- a slot from this one on
 abbrev pub is_slot : ℕ → ℕ → Bool
-is_slot least n = nat_le least n && nat_lt n 4096
+is_slot least = is_in_range least 4095
 
 -- what an update does: 1 posts, 2 removes
 abbrev pub is_change : ℕ → Bool
-is_change n = nat_le 1 n && nat_le n 2
+is_change = is_in_range 1 2
 
 -- a role: 0 leads, 1 follows
 abbrev pub is_role : ℕ → Bool
-is_role n = nat_le n 1
+is_role = is_in_range 0 1
 
 -- the role of a byte
 abbrev pub role_of : ℕ → Side
 role_of n = if n == 0 then Lead else Following
 
 -- an ask, which is one field
-unfoldable pub ask_at : ℕ → List ℕ → Result (AskId × List ℕ) WireFault
+unfoldable pub ask_at : ℕ → List ℕ → Read AskId
 ask_at total bytes = do
   f ← field_at 16 total bytes
   Ok (
@@ -151,7 +111,7 @@ ask_at total bytes = do
   )
 
 -- an update's id, which is one field; its serial is at least 1
-unfoldable pub id_at : ℕ → List ℕ → Result (UpdateId × List ℕ) WireFault
+unfoldable pub id_at : ℕ → List ℕ → Read UpdateId
 id_at total bytes = do
   f ← field_at 12 total bytes
   ranged total bytes (nat_le 1 (from_be_bytes w64 (drop 4 f.0))) (
@@ -163,41 +123,33 @@ id_at total bytes = do
   )
 
 -- an update's id, and what is made of it
-unfoldable pub named_at : {A : Type 0} → (UpdateId → A) → ℕ → List ℕ → Result (A × List ℕ) WireFault
+unfoldable pub named_at : {A : Type 0} → (UpdateId → A) → ℕ → List ℕ → Read A
 named_at make total bytes = do
   name ← id_at total bytes
   Ok (make name.0, name.1)
 
 -- the number of an entry and its update's id, and what is made of them
-unfoldable pub numbered_at : {A : Type 0} → (ℕ → UpdateId → A) → ℕ → List ℕ → Result (A × List ℕ) WireFault
+unfoldable pub numbered_at : {A : Type 0} → (ℕ → UpdateId → A) → ℕ → List ℕ → Read A
 numbered_at make total bytes = do
   number ← tested_at w32 is_number total bytes
   name ← id_at total number.1
   Ok (make number.0 name.0, name.1)
 
 -- the length of a history, and what is made of it
-unfoldable pub counted_at : {A : Type 0} → (ℕ → A) → ℕ → List ℕ → Result (A × List ℕ) WireFault
+unfoldable pub counted_at : {A : Type 0} → (ℕ → A) → ℕ → List ℕ → Read A
 counted_at make total bytes = do
   length ← tested_at w32 is_count total bytes
   Ok (make length.0, length.1)
 
 -- a correction: its seed, then its control bits
-unfoldable pub correction_at : ℕ → List ℕ → Result (Correction × List ℕ) WireFault
+unfoldable pub correction_at : ℕ → List ℕ → Read Correction
 correction_at total bytes = do
   seed ← field_at 16 total bytes
   control ← byte_at is_control total seed.1
   Ok (record { seed = seed.0; left_bit = control.0 % 2 == 1; right_bit = nat_le 2 control.0 }, control.1)
 
--- so many corrections
-unfoldable pub corrections_at : ℕ → ℕ → List ℕ → Result (List Correction × List ℕ) WireFault
-corrections_at zero total bytes = Ok ([], bytes)
-corrections_at (suc n) total bytes = do
-  first ← correction_at total bytes
-  more ← corrections_at n total first.1
-  Ok (first.0 ∷ more.0, more.1)
-
 -- the last word of a key, which a key of form 2 has
-unfoldable pub last_at : ℕ → ℕ → List ℕ → Result (Option (List ℕ) × List ℕ) WireFault
+unfoldable pub last_at : ℕ → ℕ → List ℕ → Read (Option (List ℕ))
 last_at form total bytes =
     if form == 1 then Ok (None, bytes)
     else (do
@@ -205,77 +157,46 @@ last_at form total bytes =
       Ok (Some word.0, word.1))
 
 -- a key of this form and depth: its depth, its party, its seed, the corrections of its levels, and its last word
-unfoldable pub key_at : ℕ → ℕ → ℕ → List ℕ → Result (PointKey × List ℕ) WireFault
+unfoldable pub key_at : ℕ → ℕ → ℕ → List ℕ → Read PointKey
 key_at form depth total bytes = do
   same ← byte_at (is_depth_of depth) total bytes
   party ← byte_at is_party total same.1
   seed ← field_at 16 total party.1
-  corrections ← corrections_at (levels_of form depth) total seed.1
+  corrections ← many_at correction_at (levels_of form depth) total seed.1
   last ← last_at form total corrections.1
   Ok (record { depth = depth; party = party.0; seed = seed.0; corrections = corrections.0; last = last.0 }, last.1)
 
--- so many keys, each of this form and depth
-unfoldable pub keys_at : ℕ → ℕ → ℕ → ℕ → List ℕ → Result (List PointKey × List ℕ) WireFault
-keys_at zero form depth total bytes = Ok ([], bytes)
-keys_at (suc n) form depth total bytes = do
-  first ← key_at form depth total bytes
-  more ← keys_at n form depth total first.1
-  Ok (first.0 ∷ more.0, more.1)
-
 -- what a search asks: the version, the shape, the form of the keys, and a key for each probe
-unfoldable pub search_at : ℕ → List ℕ → Result (Want × List ℕ) WireFault
+unfoldable pub search_at : ℕ → List ℕ → Read Want
 search_at total bytes = do
   version ← tested_at w32 is_count total bytes
   depth ← byte_at is_depth total version.1
   probes ← byte_at is_probes total depth.1
   form ← byte_at is_form total probes.1
-  keys ← keys_at probes.0 form.0 depth.0 total form.1
+  keys ← many_at (key_at form.0 depth.0) probes.0 total form.1
   Ok (Search version.0 (record { depth = depth.0; probes = probes.0 }) keys.0, keys.1)
 
--- the lowest n bits of a number, the lowest first
-abbrev pub bits_from : ℕ → ℕ → List Bool
-bits_from zero b = []
-bits_from (suc n) b = (b % 2 == 1) ∷ bits_from n (b / 2)
-
--- the bits of bytes: bit j is bit j mod 8 of byte j div 8
-abbrev pub bits_in : List ℕ → List Bool
-bits_in [] = []
-bits_in (b ∷ bytes) = bits_from 8 b ++ bits_in bytes
-
--- none of them is set
-abbrev pub is_clear : List Bool → Bool
-is_clear [] = true
-is_clear (b ∷ bits) = not b && is_clear bits
-
--- so many bits, which are one field; the bits after them are zero
-unfoldable pub bits_at : ℕ → ℕ → List ℕ → Result (List Bool × List ℕ) WireFault
-bits_at n total bytes = do
-  f ← field_at (packed_len n) total bytes
-  ranged total bytes (is_clear (drop n (bits_in f.0))) (take n (bits_in f.0), f.1)
-
--- so many tags, each of sixteen bytes
-unfoldable pub tags_at : ℕ → ℕ → List ℕ → Result (List ℕ × List ℕ) WireFault
-tags_at zero total bytes = Ok ([], bytes)
-tags_at (suc n) total bytes = do
+-- a tag, of sixteen bytes
+unfoldable pub tag_at : ℕ → List ℕ → Read ℕ
+tag_at total bytes = do
   tag ← field_at 16 total bytes
-  more ← tags_at n total tag.1
-  Ok (tag_number tag.0 ∷ more.0, more.1)
+  Ok (tag_number tag.0, tag.1)
 
 -- a post: its shape, and a row and tags of that shape
-unfoldable pub post_at : ℕ → List ℕ → Result (Change × List ℕ) WireFault
+unfoldable pub post_at : ℕ → List ℕ → Read Change
 post_at total bytes = do
   depth ← byte_at is_depth total bytes
   probes ← byte_at is_probes total depth.1
   row ← bits_at (2 ^ depth.0) total probes.1
-  tags ← tags_at (2 ^ depth.0) total row.1
+  tags ← many_at tag_at (2 ^ depth.0) total row.1
   Ok (Post (record { depth = depth.0; probes = probes.0 }) row.0 tags.0, tags.1)
 
 -- what an update does, by its byte
-unfoldable pub change_at : ℕ → ℕ → List ℕ → Result (Change × List ℕ) WireFault
+unfoldable pub change_at : ℕ → ℕ → List ℕ → Read Change
 change_at does total bytes = if does == 1 then post_at total bytes else Ok (Remove, bytes)
 
 -- an update: its id, the document, and what it does
-unfoldable pub entry_at : ℕ → List ℕ → Result (Entry × List ℕ) WireFault
+unfoldable pub entry_at : ℕ → List ℕ → Read Entry
 entry_at total bytes = do
   name ← id_at total bytes
   doc ← number_at w32 total name.1
@@ -284,19 +205,19 @@ entry_at total bytes = do
   Ok (record { id = name.0; doc = record { 0 = doc.0 }; change = change.0 }, change.1)
 
 -- the number of an entry, as what is asked
-unfoldable pub which_at : ℕ → List ℕ → Result (Want × List ℕ) WireFault
+unfoldable pub which_at : ℕ → List ℕ → Read Want
 which_at total bytes = do
   number ← tested_at w32 is_number total bytes
   Ok (Which number.0, number.1)
 
 -- an update, as what is asked
-unfoldable pub stage_at : ℕ → List ℕ → Result (Want × List ℕ) WireFault
+unfoldable pub stage_at : ℕ → List ℕ → Read Want
 stage_at total bytes = do
   e ← entry_at total bytes
   Ok (Stage e.0, e.1)
 
 -- what is asked, by its kind
-unfoldable pub want_at : ℕ → ℕ → List ℕ → Result (Want × List ℕ) WireFault
+unfoldable pub want_at : ℕ → ℕ → List ℕ → Read Want
 want_at kind total bytes =
     if kind == 1 then Ok (Latest, bytes)
     else (if kind == 2 then search_at total bytes
@@ -306,7 +227,7 @@ want_at kind total bytes =
     else numbered_at Follow total bytes))))
 
 -- a line of a manifest, whose slot is this one or a later one
-unfoldable pub line_at : ℕ → ℕ → List ℕ → Result (Place × List ℕ) WireFault
+unfoldable pub line_at : ℕ → ℕ → List ℕ → Read Place
 line_at least total bytes = do
   slot ← tested_at w16 (is_slot least) total bytes
   doc ← number_at w32 total slot.1
@@ -314,7 +235,7 @@ line_at least total bytes = do
   Ok (record { slot = slot.0; doc = record { 0 = doc.0 }; id = id.0 }, id.1)
 
 -- so many lines of a manifest, whose slots rise from this one on
-unfoldable pub lines_at : ℕ → ℕ → ℕ → List ℕ → Result (List Place × List ℕ) WireFault
+unfoldable pub lines_at : ℕ → ℕ → ℕ → List ℕ → Read (List Place)
 lines_at zero least total bytes = Ok ([], bytes)
 lines_at (suc n) least total bytes = do
   first ← line_at least total bytes
@@ -322,64 +243,56 @@ lines_at (suc n) least total bytes = do
   Ok (first.0 ∷ more.0, more.1)
 
 -- a sum with so many bits
-unfoldable pub sum_at : ℕ → ℕ → List ℕ → Result (Sum × List ℕ) WireFault
+unfoldable pub sum_at : ℕ → ℕ → List ℕ → Read Sum
 sum_at lines total bytes = do
   bits ← bits_at lines total bytes
-  tag ← field_at 16 total bits.1
-  Ok (record { bits = bits.0; tag = tag_number tag.0 }, tag.1)
-
--- so many sums, each with so many bits
-unfoldable pub sums_at : ℕ → ℕ → ℕ → List ℕ → Result (List Sum × List ℕ) WireFault
-sums_at zero lines total bytes = Ok ([], bytes)
-sums_at (suc n) lines total bytes = do
-  first ← sum_at lines total bytes
-  more ← sums_at n lines total first.1
-  Ok (first.0 ∷ more.0, more.1)
+  tag ← tag_at total bits.1
+  Ok (record { bits = bits.0; tag = tag.0 }, tag.1)
 
 -- what a version holds
-unfoldable pub found_at : ℕ → List ℕ → Result (Found × List ℕ) WireFault
+unfoldable pub found_at : ℕ → List ℕ → Read Found
 found_at total bytes = do
   version ← tested_at w32 is_count total bytes
   count ← tested_at w16 is_lines total version.1
   lines ← lines_at count.0 0 total count.1
   probes ← byte_at is_few total lines.1
-  sums ← sums_at probes.0 count.0 total probes.1
+  sums ← many_at (sum_at count.0) probes.0 total probes.1
   Ok (record { version = version.0; manifest = lines.0; sums = sums.0 }, sums.1)
 
 -- a shape that was wanted
-unfoldable pub shape_at : ℕ → List ℕ → Result (Refusal × List ℕ) WireFault
+unfoldable pub shape_at : ℕ → List ℕ → Read Refusal
 shape_at total bytes = do
   depth ← byte_at is_depth total bytes
   probes ← byte_at is_probes total depth.1
   Ok (ShapeWrong depth.0 probes.0, probes.1)
 
 -- the versions that are retained
-unfoldable pub retained_at : ℕ → List ℕ → Result (Refusal × List ℕ) WireFault
+unfoldable pub retained_at : ℕ → List ℕ → Read Refusal
 retained_at total bytes = do
   oldest ← tested_at w32 is_count total bytes
   newest ← tested_at w32 is_count total oldest.1
   Ok (Unretained oldest.0 newest.0, newest.1)
 
 -- a member that a folder does not have
-unfoldable pub member_at : ℕ → List ℕ → Result (Refusal × List ℕ) WireFault
+unfoldable pub member_at : ℕ → List ℕ → Read Refusal
 member_at total bytes = do
   member ← number_at w32 total bytes
   Ok (BadMember (record { 0 = member.0 }), member.1)
 
 -- the last serial of a member
-unfoldable pub past_at : ℕ → List ℕ → Result (Refusal × List ℕ) WireFault
+unfoldable pub past_at : ℕ → List ℕ → Read Refusal
 past_at total bytes = do
   last ← number_at w64 total bytes
   Ok (Past last.0, last.1)
 
 -- the role of the domain that was asked
-unfoldable pub role_at : ℕ → List ℕ → Result (Refusal × List ℕ) WireFault
+unfoldable pub role_at : ℕ → List ℕ → Read Refusal
 role_at total bytes = do
   role ← byte_at is_role total bytes
   Ok (WrongRole (role_of role.0), role.1)
 
 -- the fields of a refusal whose code is 8 or above
-unfoldable pub later_code_at : ℕ → ℕ → List ℕ → Result (Refusal × List ℕ) WireFault
+unfoldable pub later_code_at : ℕ → ℕ → List ℕ → Read Refusal
 later_code_at code total bytes =
     if code == 8 then named_at Unstaged total bytes
     else (if code == 9 then numbered_at Taken total bytes
@@ -390,7 +303,7 @@ later_code_at code total bytes =
     else Ok (OutOfMemory, bytes))))))
 
 -- the fields of a refusal, by its code
-unfoldable pub code_at : ℕ → ℕ → List ℕ → Result (Refusal × List ℕ) WireFault
+unfoldable pub code_at : ℕ → ℕ → List ℕ → Read Refusal
 code_at code total bytes =
     if code == 1 then Ok (NoFolder, bytes)
     else (if code == 2 then shape_at total bytes
@@ -403,28 +316,28 @@ code_at code total bytes =
 
 -- the codes of refusals
 abbrev pub is_code : ℕ → Bool
-is_code n = nat_le 1 n && nat_le n 14
+is_code = is_in_range 1 14
 
 -- a refusal
-unfoldable pub refusal_at : ℕ → List ℕ → Result (Refusal × List ℕ) WireFault
+unfoldable pub refusal_at : ℕ → List ℕ → Read Refusal
 refusal_at total bytes = do
   code ← byte_at is_code total bytes
   code_at code.0 total code.1
 
 -- what a version holds, as what is answered
-unfoldable pub holding_at : ℕ → List ℕ → Result (What × List ℕ) WireFault
+unfoldable pub holding_at : ℕ → List ℕ → Read What
 holding_at total bytes = do
   f ← found_at total bytes
   Ok (Finds f.0, f.1)
 
 -- a refusal, as what is answered
-unfoldable pub refused_at : ℕ → List ℕ → Result (What × List ℕ) WireFault
+unfoldable pub refused_at : ℕ → List ℕ → Read What
 refused_at total bytes = do
   code ← refusal_at total bytes
   Ok (Refused code.0, code.1)
 
 -- what is answered, by its kind
-unfoldable pub what_at : ℕ → ℕ → List ℕ → Result (What × List ℕ) WireFault
+unfoldable pub what_at : ℕ → ℕ → List ℕ → Read What
 what_at kind total bytes =
     if kind == 129 then counted_at At total bytes
     else (if kind == 130 then holding_at total bytes
@@ -433,42 +346,49 @@ what_at kind total bytes =
     else (if kind == 133 then numbered_at Committed total bytes
     else refused_at total bytes))))
 
--- what was read to the end; else a fault at the byte after the last field
-abbrev pub ended : {A : Type 0} → A → ℕ → List ℕ → Result A WireFault
-ended x total bytes = if length bytes == 0 then Ok x else Err (Trailing (place total bytes))
+-- a fault of a field, as a message's
+abbrev pub fault_of : FieldFault → WireFault
+fault_of (CutShort at) = Body at
+fault_of (OutOfRange at) = Body at
+fault_of FieldNoMemory = NoMemory
 
--- a request of so many bytes whose kind is known
-unfoldable pub request_at : ℕ → ℕ → List ℕ → Result Request WireFault
+-- what was read to the end; else a fault at the byte after the last field, or the fault of a field
+abbrev pub ended : {A : Type 0} → ℕ → Read A → Result A WireFault
+ended total (Ok x) = if length x.1 == 0 then Ok x.0 else Err (Trailing (place total x.1))
+ended total (Err e) = Err (fault_of e)
+
+-- a request whose kind is known
+unfoldable pub request_at : ℕ → ℕ → List ℕ → Read Request
 request_at kind total bytes = do
   ask ← ask_at total bytes
   folder ← number_at w32 total ask.1
   want ← want_at kind total folder.1
-  ended (record { ask = ask.0; folder = record { 0 = folder.0 }; want = want.0 }) total want.1
+  Ok (record { ask = ask.0; folder = record { 0 = folder.0 }; want = want.0 }, want.1)
 
--- a reply of so many bytes whose kind is known
-unfoldable pub reply_at : ℕ → ℕ → List ℕ → Result Reply WireFault
+-- a reply whose kind is known
+unfoldable pub reply_at : ℕ → ℕ → List ℕ → Read Reply
 reply_at kind total bytes = do
   ask ← ask_at total bytes
   what ← what_at kind total ask.1
-  ended (record { ask = ask.0; what = what.0 }) total what.1
+  Ok (record { ask = ask.0; what = what.0 }, what.1)
 
 -- the kinds of requests
 abbrev pub is_asking : ℕ → Bool
-is_asking kind = nat_le 1 kind && nat_le kind 6
+is_asking = is_in_range 1 6
 
 -- the kinds of replies
 abbrev pub is_answering : ℕ → Bool
-is_answering kind = nat_le 129 kind && nat_le kind 134
+is_answering = is_in_range 129 134
 
 -- the request that a message is, or its first fault
 unfoldable pub request_of : List ℕ → Result Request WireFault
 request_of [] = Err (Body 0)
-request_of (kind ∷ bytes) = if is_asking kind then request_at kind (suc (length bytes)) bytes else Err (Kind kind)
+request_of (kind ∷ bytes) = if is_asking kind then ended (suc (length bytes)) (request_at kind (suc (length bytes)) bytes) else Err (Kind kind)
 
 -- the reply that a message is, or its first fault
 unfoldable pub reply_of : List ℕ → Result Reply WireFault
 reply_of [] = Err (Body 0)
-reply_of (kind ∷ bytes) = if is_answering kind then reply_at kind (suc (length bytes)) bytes else Err (Kind kind)
+reply_of (kind ∷ bytes) = if is_answering kind then ended (suc (length bytes)) (reply_at kind (suc (length bytes)) bytes) else Err (Kind kind)
 
 -- what was read, if no fault was
 abbrev pub if_read : {A : Type 0} → Result A WireFault → Option A

@@ -1,8 +1,8 @@
 -- The one spelling of each message, and the ranges of its fields. Numbers are written with the highest byte first.
-use Rattle.std.specs.Prelude.{ℕ, zero, suc, ◌≡◌, ◌<◌, ◌≤◌, ◌+◌, ◌*◌, ◌/◌, ◌^◌, Bool, List, [], ◌∷◌, ◌++◌, length, map, take, drop, if◌then◌else◌}
+use Rattle.std.specs.Prelude.{ℕ, ◌≡◌, ◌<◌, ◌≤◌, ◌^◌, Bool, List, [], ◌∷◌, ◌++◌, length, map}
 use Rattle.std.specs.List.{flat_map, AllByRecursion}
 use Rattle.std.specs.List.Sorted.{IsStrictlyIncreasing}
-use Rattle.std.specs.Int.{w16, w32, w64, to_be_bytes}
+use Rattle.std.specs.Int.{w16, w64, to_be_bytes}
 use Rattle.dory_base.specs.Dims.{Dims, IsDims}
 use Rattle.dory_base.specs.TagBytes.{tag_bytes}
 use Rattle.dory_base.specs.declared.ids.AskId.{AskId}
@@ -18,6 +18,8 @@ use Rattle.dory_base.specs.declared.found.Sum.{Sum}
 use Rattle.dory_base.specs.declared.found.Found.{Found}
 use Rattle.dory_base.specs.declared.refusal.Refusal.{Refusal}
 use Rattle.dory_base.specs.declared.refusal.Refusal.TheVariants.{NoFolder, ShapeWrong, Unretained, BadMember, Past, Clash, Unfinished, Unstaged, Taken, Gap, WrongRole, HistoryFull, NoEntry, NoMemory}
+use Rattle.dory_fields.specs.Bytes.{four}
+use Rattle.dory_fields.specs.Packing.{packed}
 use Rattle.dory_dpf.specs.PointKey.{PointKey, IsKeyOf, form_of}
 use Rattle.dory_dpf.specs.KeyBytes.{bytes_of_key}
 use Rattle.dory_wire.specs.declared.message.Want.{Want}
@@ -27,10 +29,6 @@ use Rattle.dory_wire.specs.declared.message.What.TheVariants.{At, Found as Finds
 use Rattle.dory_wire.specs.declared.message.Request.{Request}
 use Rattle.dory_wire.specs.declared.message.Reply.{Reply}
 
--- a number in four bytes
-abbrev pub four : ℕ → List ℕ
-four n = to_be_bytes w32 n
-
 -- an ask: the member, the serial and the step
 abbrev pub ask : AskId → List ℕ
 ask a = four a.member.0 ++ to_be_bytes w64 a.serial ++ four a.step
@@ -38,24 +36,6 @@ ask a = four a.member.0 ++ to_be_bytes w64 a.serial ++ four a.step
 -- an update's id: the member and the serial
 abbrev pub id : UpdateId → List ℕ
 id i = four i.member.0 ++ to_be_bytes w64 i.serial
-
--- eight bits as a byte, the first of them the lowest
-abbrev pub byte : List Bool → ℕ
-byte [] = 0
-byte (b ∷ bits) = (if b then 1 else 0) + 2 * byte bits
-
--- as many bytes, of eight bits each
-abbrev pub bytes_of : ℕ → List Bool → List ℕ
-bytes_of zero bits = []
-bytes_of (suc n) bits = byte (take 8 bits) ∷ bytes_of n (drop 8 bits)
-
--- how many bytes so many bits take
-abbrev pub packed_len : ℕ → ℕ
-packed_len n = (n + 7) / 8
-
--- bits in bytes: bit j is bit j mod 8 of byte j div 8, with zero bits after the last
-abbrev pub packed : List Bool → List ℕ
-packed bits = bytes_of (packed_len (length bits)) bits
 
 -- a line of a manifest
 abbrev pub line : Place → List ℕ

@@ -1,199 +1,167 @@
 //! Readers of what a reply answers.
 ghost use Rattle.std.specs.Prelude.{◌≡◌, ◌≤◌, ◌<◌, IfOk, map};
 ghost use Rattle.std.specs.List.Sorted.{IsStrictlyIncreasing};
+ghost use Rattle.dory_fields.specs.Reading.{Reads, many_at};
 ghost use Rattle.dory_wire.specs.declared.message.What.TheVariants.{At, Id, Staged, Committed};
-ghost use Rattle.dory_wire.specs.Reading.{GivesBy, Gives, counted_at, found_at as read_found, holding_at as read_holding, line_at as read_line, lines_at as read_lines, named_at, numbered_at, refused_at as read_refused, reply_at as read_reply, reply_of, sum_at as read_sum, sums_at as read_sums, what_at as read_what};
+ghost use Rattle.dory_wire.specs.Reading.{Gives, counted_at, ended, found_at, holding_at, line_at, lines_at, named_at, numbered_at, refused_at, reply_at, reply_of, sum_at, what_at};
 
-use crate::fault::WireFault;
-use crate::field::{
-    ask_at, count_at, entry_number_at, few_at, id_at, lines_at as line_count_at, slice_at, slot_at,
-    tag_of, trailing, u32_at,
-};
+use crate::fault::{WireFault, nothing_after};
+use crate::field::{read_ask, read_count, read_id, read_number, read_tag};
 use crate::message::{Reply, What};
-use crate::packed::bits_at;
-use crate::refused::refusal_at;
+use crate::refused::read_refusal;
 use dory_base::{DocId, Found, Manifest, Place, Sum, Sums};
+use dory_fields::{FieldFault, Reader};
 use std::alloc::Global;
 
+/// A line whose slot is this one or a later one.
 #[tactic(auto, unfolding(crate::specs::Reading::line_at))]
-fn line_at(total: usize, least: u16, bytes: &[u8]) -> Result<(Place, &[u8]), WireFault>
-    ensures value { GivesBy (λ x. (x.0, x.1.now)) result (read_line least total bytes.now) }
-    ensures range { IfOk result (λ x. x.0.slot < 4096) }
+fn read_line(reader: &mut Reader<'_>, least: u16) -> Result<Place, FieldFault>
+    ensures value { Reads (λ x. x) result (line_at least) reader.old reader.new }
+    ensures range { IfOk result (λ x. x.slot < 4096) }
 {
-    let (slot, rest) = slot_at(total, least, bytes)?;
-    let (doc, rest) = u32_at(total, rest)?;
-    let (id, rest) = id_at(total, rest)?;
-    let doc = DocId(doc);
-    Ok((Place { slot, doc, id }, rest))
+    let slot = reader.u16_in(least, 4095)?;
+    let doc = DocId(reader.u32()?);
+    let id = read_id(reader)?;
+    Ok(Place { slot, doc, id })
 }
 
-fn places_at(
-    alloc: Global,
-    total: usize,
-    count: u16,
-    bytes: &[u8],
-) -> Result<(Vec<Place>, &[u8]), WireFault>
-    ensures rising { IfOk result (λ x. IsStrictlyIncreasing (map (λ p. p.slot) x.0.items)) }
-    ensures value { GivesBy (λ x. (x.0.items, x.1.now)) result (read_lines count 0 total bytes.now) }
+fn read_lines(alloc: Global, reader: &mut Reader<'_>, count: u16) -> Result<Vec<Place>, FieldFault>
+    ensures rising { IfOk result (λ x. IsStrictlyIncreasing (map (λ p. p.slot) x.items)) }
+    ensures value { Reads (λ x. x.items) result (lines_at count 0) reader.old reader.new }
 {
     let mut places = Vec::new(alloc);
-    let mut rest = bytes;
     let mut least = 0u16;
     for _ in 0..count {
-        let (place, after) = line_at(total, least, rest)?;
+        let place = read_line(reader, least)?;
         places.push(place)?;
-        rest = after;
         least = place.slot + 1;
     }
-    Ok((places, rest))
+    Ok(places)
 }
 
 #[tactic(auto, unfolding(crate::specs::Reading::sum_at))]
-fn sum_at(
-    alloc: Global,
-    total: usize,
-    lines: usize,
-    bytes: &[u8],
-) -> Result<(Sum, &[u8]), WireFault>
+fn read_sum(alloc: Global, reader: &mut Reader<'_>, lines: u16) -> Result<Sum, FieldFault>
     requires { lines ≤ 4096 }
-    ensures { GivesBy (λ x. (x.0, x.1.now)) result (read_sum lines total bytes.now) }
+    ensures { Reads (λ x. x) result (sum_at lines) reader.old reader.new }
 {
-    let (bits, rest) = match bits_at(alloc, total, lines, bytes) {
-        Ok(found) => found,
-        Err(fault) => return Err(fault),
-    };
-    let (tag, rest) = slice_at(total, 16, rest)?;
-    let tag = tag_of(tag);
-    Ok((Sum { bits, tag }, rest))
+    let bits = reader.bits(alloc, lines as usize)?;
+    let tag = read_tag(reader)?;
+    Ok(Sum { bits, tag })
 }
 
-fn sums_at(
+fn read_sums(
     alloc: Global,
-    total: usize,
+    reader: &mut Reader<'_>,
     count: u8,
-    lines: usize,
-    bytes: &[u8],
-) -> Result<(Vec<Sum>, &[u8]), WireFault>
+    lines: u16,
+) -> Result<Vec<Sum>, FieldFault>
     requires { lines ≤ 4096 }
-    ensures { GivesBy (λ x. (x.0.items, x.1.now)) result (read_sums count lines total bytes.now) }
+    ensures { Reads (λ x. x.items) result (many_at (sum_at lines) count) reader.old reader.new }
 {
     let mut sums = Vec::new(alloc);
-    let mut rest = bytes;
     for _ in 0..count {
-        let (sum, after) = match sum_at(alloc, total, lines, rest) {
-            Ok(found) => found,
-            Err(fault) => return Err(fault),
-        };
+        let sum = read_sum(alloc, reader, lines)?;
         sums.push(sum)?;
-        rest = after;
     }
-    Ok((sums, rest))
+    Ok(sums)
 }
 
 #[tactic(auto, unfolding(crate::specs::Reading::found_at))]
-fn found_at(alloc: Global, total: usize, bytes: &[u8]) -> Result<(Found, &[u8]), WireFault>
-    ensures { GivesBy (λ x. (x.0, x.1.now)) result (read_found total bytes.now) }
+fn read_found(alloc: Global, reader: &mut Reader<'_>) -> Result<Found, FieldFault>
+    ensures { Reads (λ x. x) result found_at reader.old reader.new }
 {
-    let (version, rest) = count_at(total, bytes)?;
-    let (count, rest) = line_count_at(total, rest)?;
-    let (places, rest) = places_at(alloc, total, count, rest)?;
-    let (probes, rest) = few_at(total, rest)?;
-    let (sums, rest) = match sums_at(alloc, total, probes, count as usize, rest) {
-        Ok(found) => found,
-        Err(fault) => return Err(fault),
-    };
-    let found = Found {
+    let version = read_count(reader)?;
+    let count = reader.u16_in(0, 4096)?;
+    let places = read_lines(alloc, reader, count)?;
+    let probes = reader.u8_in(0, 8)?;
+    let sums = read_sums(alloc, reader, probes, count)?;
+    Ok(Found {
         version,
         manifest: Manifest::of(places),
         sums: Sums::of(sums),
-    };
-    Ok((found, rest))
+    })
 }
 
 #[tactic(auto, unfolding(crate::specs::Reading::holding_at))]
-fn holding_at(alloc: Global, total: usize, bytes: &[u8]) -> Result<(What, &[u8]), WireFault>
-    ensures { GivesBy (λ x. (x.0, x.1.now)) result (read_holding total bytes.now) }
+fn read_holding(alloc: Global, reader: &mut Reader<'_>) -> Result<What, FieldFault>
+    ensures { Reads (λ x. x) result holding_at reader.old reader.new }
 {
-    match found_at(alloc, total, bytes) {
-        Ok((found, rest)) => Ok((What::Found { found }, rest)),
-        Err(fault) => Err(fault),
-    }
+    let found = read_found(alloc, reader)?;
+    Ok(What::Found { found })
 }
 
 #[tactic(auto, unfolding(crate::specs::Reading::counted_at))]
-fn length_at(total: usize, bytes: &[u8]) -> Result<(What, &[u8]), WireFault>
-    ensures { GivesBy (λ x. (x.0, x.1.now)) result (counted_at At total bytes.now) }
+fn read_length(reader: &mut Reader<'_>) -> Result<What, FieldFault>
+    ensures { Reads (λ x. x) result (counted_at At) reader.old reader.new }
 {
-    let (length, rest) = count_at(total, bytes)?;
-    Ok((What::At { length }, rest))
+    let length = read_count(reader)?;
+    Ok(What::At { length })
 }
 
 #[tactic(auto, unfolding(crate::specs::Reading::numbered_at))]
-fn named_entry_at(total: usize, bytes: &[u8]) -> Result<(What, &[u8]), WireFault>
-    ensures { GivesBy (λ x. (x.0, x.1.now)) result (numbered_at Id total bytes.now) }
+fn read_named_entry(reader: &mut Reader<'_>) -> Result<What, FieldFault>
+    ensures { Reads (λ x. x) result (numbered_at Id) reader.old reader.new }
 {
-    let (number, rest) = entry_number_at(total, bytes)?;
-    let (id, rest) = id_at(total, rest)?;
-    Ok((What::Id { number, id }, rest))
+    let number = read_number(reader)?;
+    let id = read_id(reader)?;
+    Ok(What::Id { number, id })
 }
 
 #[tactic(auto, unfolding(crate::specs::Reading::named_at))]
-fn staged_at(total: usize, bytes: &[u8]) -> Result<(What, &[u8]), WireFault>
-    ensures { GivesBy (λ x. (x.0, x.1.now)) result (named_at Staged total bytes.now) }
+fn read_staged(reader: &mut Reader<'_>) -> Result<What, FieldFault>
+    ensures { Reads (λ x. x) result (named_at Staged) reader.old reader.new }
 {
-    let (id, rest) = id_at(total, bytes)?;
-    Ok((What::Staged { id }, rest))
+    let id = read_id(reader)?;
+    Ok(What::Staged { id })
 }
 
 #[tactic(auto, unfolding(crate::specs::Reading::numbered_at))]
-fn committed_at(total: usize, bytes: &[u8]) -> Result<(What, &[u8]), WireFault>
-    ensures { GivesBy (λ x. (x.0, x.1.now)) result (numbered_at Committed total bytes.now) }
+fn read_committed(reader: &mut Reader<'_>) -> Result<What, FieldFault>
+    ensures { Reads (λ x. x) result (numbered_at Committed) reader.old reader.new }
 {
-    let (number, rest) = entry_number_at(total, bytes)?;
-    let (id, rest) = id_at(total, rest)?;
-    Ok((What::Committed { number, id }, rest))
+    let number = read_number(reader)?;
+    let id = read_id(reader)?;
+    Ok(What::Committed { number, id })
 }
 
 #[tactic(auto, unfolding(crate::specs::Reading::refused_at))]
-fn refused_at(total: usize, bytes: &[u8]) -> Result<(What, &[u8]), WireFault>
-    ensures { GivesBy (λ x. (x.0, x.1.now)) result (read_refused total bytes.now) }
+fn read_refused(reader: &mut Reader<'_>) -> Result<What, FieldFault>
+    ensures { Reads (λ x. x) result refused_at reader.old reader.new }
 {
-    let (code, rest) = refusal_at(total, bytes)?;
-    Ok((What::Refused { code }, rest))
+    let code = read_refusal(reader)?;
+    Ok(What::Refused { code })
 }
 
 #[tactic(auto, unfolding(crate::specs::Reading::what_at))]
-fn what_at(alloc: Global, kind: u8, total: usize, bytes: &[u8]) -> Result<(What, &[u8]), WireFault>
-    ensures { GivesBy (λ x. (x.0, x.1.now)) result (read_what kind total bytes.now) }
+fn read_what(alloc: Global, reader: &mut Reader<'_>, kind: u8) -> Result<What, FieldFault>
+    ensures { Reads (λ x. x) result (what_at kind) reader.old reader.new }
 {
-    if kind == 129 {
-        length_at(total, bytes)
-    } else if kind == 130 {
-        holding_at(alloc, total, bytes)
-    } else if kind == 131 {
-        named_entry_at(total, bytes)
-    } else if kind == 132 {
-        staged_at(total, bytes)
-    } else if kind == 133 {
-        committed_at(total, bytes)
-    } else {
-        refused_at(total, bytes)
+    match kind {
+        0x81 => read_length(reader),
+        0x82 => read_holding(alloc, reader),
+        0x83 => read_named_entry(reader),
+        0x84 => read_staged(reader),
+        0x85 => read_committed(reader),
+        _ => read_refused(reader),
     }
 }
 
 #[tactic(auto, unfolding(crate::specs::Reading::reply_at))]
-fn reply_at(alloc: Global, kind: u8, total: usize, bytes: &[u8]) -> Result<Reply, WireFault>
-    ensures { Gives result (read_reply kind total bytes.now) }
+fn read_reply(alloc: Global, reader: &mut Reader<'_>, kind: u8) -> Result<Reply, FieldFault>
+    ensures { Reads (λ x. x) result (reply_at kind) reader.old reader.new }
 {
-    let (ask, rest) = ask_at(total, bytes)?;
-    let (what, rest) = match what_at(alloc, kind, total, rest) {
-        Ok(found) => found,
-        Err(fault) => return Err(fault),
-    };
-    if !rest.is_empty() {
-        return Err(trailing(total, rest));
-    }
+    let ask = read_ask(reader)?;
+    let what = read_what(alloc, reader, kind)?;
     Ok(Reply { ask, what })
+}
+
+/// The reply of this kind that these bytes are.
+fn reply_in(alloc: Global, kind: u8, mut reader: Reader<'_>) -> Result<Reply, WireFault>
+    ensures { Gives result (ended reader.entry.total (reply_at kind reader.entry.total reader.entry.rest)) }
+{
+    let reply = read_reply(alloc, &mut reader, kind)?;
+    nothing_after(&reader)?;
+    Ok(reply)
 }
 
 /// The reply that a message is.
@@ -205,7 +173,7 @@ pub fn whole_reply(alloc: Global, message: &[u8]) -> Result<Reply, WireFault>
         [] => Err(WireFault::Body { at: 0 }),
         [kind, rest @ ..] => {
             if *kind >= 0x81 && *kind <= 0x86 {
-                reply_at(alloc, *kind, message.len(), rest)
+                reply_in(alloc, *kind, Reader::within(message.len(), rest))
             } else {
                 Err(WireFault::Kind { b: *kind })
             }

@@ -1,104 +1,99 @@
 //! Readers of what a request asks.
 ghost use Rattle.std.specs.Prelude.{◌≡◌};
+ghost use Rattle.dory_fields.specs.Reading.{Reads};
 ghost use Rattle.dory_wire.specs.declared.message.Want.TheVariants.{Follow, Order};
-ghost use Rattle.dory_wire.specs.Reading.{GivesBy, Gives, named_at, numbered_at, request_at as read_request, request_of, search_at as read_search, stage_at as read_stage, want_at as read_want, which_at as read_which};
+ghost use Rattle.dory_wire.specs.Reading.{Gives, ended, named_at, numbered_at, request_at, request_of, search_at, stage_at, want_at, which_at};
 
-use crate::fault::WireFault;
-use crate::field::{
-    ask_at, count_at, depth_at, entry_number_at, form_at, id_at, probes_at, shape_of, trailing,
-    u32_at,
-};
+use crate::fault::{WireFault, nothing_after};
+use crate::field::{read_ask, read_count, read_depth, read_id, read_number, read_probes};
 use crate::message::{Request, Want};
-use crate::probe_keys::keys_at;
-use crate::staged::entry_at;
-use dory_base::FolderId;
+use crate::probe_keys::read_keys;
+use crate::staged::read_entry;
+use dory_base::{FolderId, Shape};
 use dory_dpf::Keys;
+use dory_fields::{FieldFault, Reader};
 use std::alloc::Global;
 
 #[tactic(auto, unfolding(crate::specs::Reading::search_at))]
-fn search_at(alloc: Global, total: usize, bytes: &[u8]) -> Result<(Want, &[u8]), WireFault>
-    ensures { GivesBy (λ x. (x.0, x.1.now)) result (read_search total bytes.now) }
+fn read_search(alloc: Global, reader: &mut Reader<'_>) -> Result<Want, FieldFault>
+    ensures { Reads (λ x. x) result search_at reader.old reader.new }
 {
-    let (version, rest) = count_at(total, bytes)?;
-    let (depth, rest) = depth_at(total, rest)?;
-    let (probes, rest) = probes_at(total, rest)?;
-    let (form, rest) = form_at(total, rest)?;
-    let (keys, rest) = keys_at(alloc, total, probes, form, depth, rest)?;
-    let want = Want::Search {
+    let version = read_count(reader)?;
+    let depth = read_depth(reader)?;
+    let probes = read_probes(reader)?;
+    let form = reader.u8_in(1, 2)?;
+    let keys = read_keys(alloc, reader, probes, form, depth)?;
+    Ok(Want::Search {
         version,
-        shape: shape_of(depth, probes),
+        shape: Shape::of(depth, probes),
         keys: Keys::of(keys),
-    };
-    Ok((want, rest))
+    })
 }
 
 #[tactic(auto, unfolding(crate::specs::Reading::which_at))]
-fn which_at(total: usize, bytes: &[u8]) -> Result<(Want, &[u8]), WireFault>
-    ensures { GivesBy (λ x. (x.0, x.1.now)) result (read_which total bytes.now) }
+fn read_which(reader: &mut Reader<'_>) -> Result<Want, FieldFault>
+    ensures { Reads (λ x. x) result which_at reader.old reader.new }
 {
-    let (number, rest) = entry_number_at(total, bytes)?;
-    Ok((Want::Which { number }, rest))
+    let number = read_number(reader)?;
+    Ok(Want::Which { number })
 }
 
 #[tactic(auto, unfolding(crate::specs::Reading::stage_at))]
-fn stage_at(alloc: Global, total: usize, bytes: &[u8]) -> Result<(Want, &[u8]), WireFault>
-    ensures { GivesBy (λ x. (x.0, x.1.now)) result (read_stage total bytes.now) }
+fn read_stage(alloc: Global, reader: &mut Reader<'_>) -> Result<Want, FieldFault>
+    ensures { Reads (λ x. x) result stage_at reader.old reader.new }
 {
-    match entry_at(alloc, total, bytes) {
-        Ok((entry, rest)) => Ok((Want::Stage { entry }, rest)),
-        Err(fault) => Err(fault),
-    }
+    let entry = read_entry(alloc, reader)?;
+    Ok(Want::Stage { entry })
 }
 
 #[tactic(auto, unfolding(crate::specs::Reading::named_at))]
-fn order_at(total: usize, bytes: &[u8]) -> Result<(Want, &[u8]), WireFault>
-    ensures { GivesBy (λ x. (x.0, x.1.now)) result (named_at Order total bytes.now) }
+fn read_order(reader: &mut Reader<'_>) -> Result<Want, FieldFault>
+    ensures { Reads (λ x. x) result (named_at Order) reader.old reader.new }
 {
-    let (id, rest) = id_at(total, bytes)?;
-    Ok((Want::Order { id }, rest))
+    let id = read_id(reader)?;
+    Ok(Want::Order { id })
 }
 
 #[tactic(auto, unfolding(crate::specs::Reading::numbered_at))]
-fn follow_at(total: usize, bytes: &[u8]) -> Result<(Want, &[u8]), WireFault>
-    ensures { GivesBy (λ x. (x.0, x.1.now)) result (numbered_at Follow total bytes.now) }
+fn read_follow(reader: &mut Reader<'_>) -> Result<Want, FieldFault>
+    ensures { Reads (λ x. x) result (numbered_at Follow) reader.old reader.new }
 {
-    let (number, rest) = entry_number_at(total, bytes)?;
-    let (id, rest) = id_at(total, rest)?;
-    Ok((Want::Follow { number, id }, rest))
+    let number = read_number(reader)?;
+    let id = read_id(reader)?;
+    Ok(Want::Follow { number, id })
 }
 
 #[tactic(auto, unfolding(crate::specs::Reading::want_at))]
-fn want_at(alloc: Global, kind: u8, total: usize, bytes: &[u8]) -> Result<(Want, &[u8]), WireFault>
-    ensures { GivesBy (λ x. (x.0, x.1.now)) result (read_want kind total bytes.now) }
+fn read_want(alloc: Global, reader: &mut Reader<'_>, kind: u8) -> Result<Want, FieldFault>
+    ensures { Reads (λ x. x) result (want_at kind) reader.old reader.new }
 {
     match kind {
-        1 => Ok((Want::Latest, bytes)),
-        2 => search_at(alloc, total, bytes),
-        3 => which_at(total, bytes),
-        4 => stage_at(alloc, total, bytes),
-        5 => order_at(total, bytes),
-        _ => follow_at(total, bytes),
+        1 => Ok(Want::Latest),
+        2 => read_search(alloc, reader),
+        3 => read_which(reader),
+        4 => read_stage(alloc, reader),
+        5 => read_order(reader),
+        _ => read_follow(reader),
     }
 }
 
 #[tactic(auto, unfolding(crate::specs::Reading::request_at))]
-fn request_at(alloc: Global, kind: u8, total: usize, bytes: &[u8]) -> Result<Request, WireFault>
-    ensures { Gives result (read_request kind total bytes.now) }
+fn read_request(alloc: Global, reader: &mut Reader<'_>, kind: u8) -> Result<Request, FieldFault>
+    ensures { Reads (λ x. x) result (request_at kind) reader.old reader.new }
 {
-    let (ask, rest) = ask_at(total, bytes)?;
-    let (folder, rest) = u32_at(total, rest)?;
-    let (want, rest) = match want_at(alloc, kind, total, rest) {
-        Ok(found) => found,
-        Err(fault) => return Err(fault),
-    };
-    if !rest.is_empty() {
-        return Err(trailing(total, rest));
-    }
-    Ok(Request {
-        ask,
-        folder: FolderId(folder),
-        want,
-    })
+    let ask = read_ask(reader)?;
+    let folder = FolderId(reader.u32()?);
+    let want = read_want(alloc, reader, kind)?;
+    Ok(Request { ask, folder, want })
+}
+
+/// The request of this kind that these bytes are.
+fn request_in(alloc: Global, kind: u8, mut reader: Reader<'_>) -> Result<Request, WireFault>
+    ensures { Gives result (ended reader.entry.total (request_at kind reader.entry.total reader.entry.rest)) }
+{
+    let request = read_request(alloc, &mut reader, kind)?;
+    nothing_after(&reader)?;
+    Ok(request)
 }
 
 /// The request that a message is.
@@ -110,7 +105,7 @@ pub fn whole_request(alloc: Global, message: &[u8]) -> Result<Request, WireFault
         [] => Err(WireFault::Body { at: 0 }),
         [kind, rest @ ..] => {
             if *kind >= 1 && *kind <= 6 {
-                request_at(alloc, *kind, message.len(), rest)
+                request_in(alloc, *kind, Reader::within(message.len(), rest))
             } else {
                 Err(WireFault::Kind { b: *kind })
             }

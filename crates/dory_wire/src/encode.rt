@@ -6,8 +6,9 @@ ghost use Rattle.dory_wire.specs.Spelling.{spelling_of_request, spelling_of_repl
 ghost use Rattle.dory_wire.specs.Reading.{request_in, reply_in};
 
 use crate::message::{Reply, Request, Want, WantRef};
-use crate::spell::{kind_of_want, kind_of_what, put_ask, put_u32, put_want, put_what};
+use crate::spell::{kind_of_want, kind_of_what, put_ask, put_want, put_what};
 use dory_base::{AskId, FolderId, NoMemory};
+use dory_fields::put_u32;
 use std::alloc::Global;
 
 fn framed(alloc: Global, message: &[u8]) -> Result<Vec<u8>, NoMemory>
@@ -15,7 +16,7 @@ fn framed(alloc: Global, message: &[u8]) -> Result<Vec<u8>, NoMemory>
     ensures { IfOk result (λ frame. frame.items ≡ frame_of message.now) }
 {
     let mut frame = Vec::new(alloc);
-    frame.extend_from_slice(&(message.len() as u32).to_be_bytes())?;
+    put_u32(&mut frame, message.len() as u32)?;
     frame.extend_from_slice(message)?;
     Ok(frame)
 }

@@ -10,7 +10,6 @@ mod field;
 mod frame;
 mod framer;
 mod message;
-mod packed;
 mod probe_keys;
 mod refused;
 mod spell;

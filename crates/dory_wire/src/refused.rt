@@ -1,96 +1,94 @@
 //! Readers of refusals.
 ghost use Rattle.std.specs.Prelude.{◌≡◌};
 ghost use Rattle.dory_base.specs.declared.refusal.Refusal.TheVariants.{Clash, Gap, NoEntry, Taken, Unfinished, Unstaged};
-ghost use Rattle.dory_wire.specs.Reading.{GivesBy, code_at as read_code, counted_at, later_code_at, member_at as read_member, named_at, numbered_at, past_at as read_past, refusal_at as read_refusal, retained_at as read_retained, role_at as read_role, role_of, shape_at as read_shape};
+ghost use Rattle.dory_fields.specs.Reading.{Reads};
+ghost use Rattle.dory_wire.specs.Reading.{code_at, counted_at, later_code_at, member_at, named_at, numbered_at, past_at, refusal_at, retained_at, role_at, role_of, shape_at};
 
-use crate::fault::WireFault;
-use crate::field::{
-    code_at, count_at, depth_at, entry_number_at, id_at, probes_at, role_at, u32_at, u64_at,
-};
+use crate::field::{read_count, read_depth, read_id, read_number, read_probes};
 use dory_base::{MemberId, Refusal, Side};
+use dory_fields::{FieldFault, Reader};
 
 #[tactic(auto, unfolding(crate::specs::Reading::shape_at))]
-fn shape_at(total: usize, bytes: &[u8]) -> Result<(Refusal, &[u8]), WireFault>
-    ensures { GivesBy (λ x. (x.0, x.1.now)) result (read_shape total bytes.now) }
+fn read_shape_wrong(reader: &mut Reader<'_>) -> Result<Refusal, FieldFault>
+    ensures { Reads (λ x. x) result shape_at reader.old reader.new }
 {
-    let (depth, rest) = depth_at(total, bytes)?;
-    let (probes, rest) = probes_at(total, rest)?;
-    Ok((Refusal::ShapeWrong { depth, probes }, rest))
+    let depth = read_depth(reader)?;
+    let probes = read_probes(reader)?;
+    Ok(Refusal::ShapeWrong { depth, probes })
 }
 
 #[tactic(auto, unfolding(crate::specs::Reading::retained_at))]
-fn retained_at(total: usize, bytes: &[u8]) -> Result<(Refusal, &[u8]), WireFault>
-    ensures { GivesBy (λ x. (x.0, x.1.now)) result (read_retained total bytes.now) }
+fn read_unretained(reader: &mut Reader<'_>) -> Result<Refusal, FieldFault>
+    ensures { Reads (λ x. x) result retained_at reader.old reader.new }
 {
-    let (oldest, rest) = count_at(total, bytes)?;
-    let (newest, rest) = count_at(total, rest)?;
-    Ok((Refusal::Unretained { oldest, newest }, rest))
+    let oldest = read_count(reader)?;
+    let newest = read_count(reader)?;
+    Ok(Refusal::Unretained { oldest, newest })
 }
 
 #[tactic(auto, unfolding(crate::specs::Reading::member_at))]
-fn bad_member_at(total: usize, bytes: &[u8]) -> Result<(Refusal, &[u8]), WireFault>
-    ensures { GivesBy (λ x. (x.0, x.1.now)) result (read_member total bytes.now) }
+fn read_bad_member(reader: &mut Reader<'_>) -> Result<Refusal, FieldFault>
+    ensures { Reads (λ x. x) result member_at reader.old reader.new }
 {
-    let (member, rest) = u32_at(total, bytes)?;
-    let member = MemberId(member);
-    Ok((Refusal::BadMember { member }, rest))
+    let member = MemberId(reader.u32()?);
+    Ok(Refusal::BadMember { member })
 }
 
 #[tactic(auto, unfolding(crate::specs::Reading::past_at))]
-fn past_at(total: usize, bytes: &[u8]) -> Result<(Refusal, &[u8]), WireFault>
-    ensures { GivesBy (λ x. (x.0, x.1.now)) result (read_past total bytes.now) }
+fn read_past(reader: &mut Reader<'_>) -> Result<Refusal, FieldFault>
+    ensures { Reads (λ x. x) result past_at reader.old reader.new }
 {
-    let (last, rest) = u64_at(total, bytes)?;
-    Ok((Refusal::Past { last }, rest))
+    let last = reader.u64()?;
+    Ok(Refusal::Past { last })
 }
 
 #[tactic(auto, unfolding(crate::specs::Reading::named_at))]
-fn clash_at(total: usize, bytes: &[u8]) -> Result<(Refusal, &[u8]), WireFault>
-    ensures { GivesBy (λ x. (x.0, x.1.now)) result (named_at Clash total bytes.now) }
+fn read_clash(reader: &mut Reader<'_>) -> Result<Refusal, FieldFault>
+    ensures { Reads (λ x. x) result (named_at Clash) reader.old reader.new }
 {
-    let (id, rest) = id_at(total, bytes)?;
-    Ok((Refusal::Clash { id }, rest))
+    let id = read_id(reader)?;
+    Ok(Refusal::Clash { id })
 }
 
 #[tactic(auto, unfolding(crate::specs::Reading::named_at))]
-fn unfinished_at(total: usize, bytes: &[u8]) -> Result<(Refusal, &[u8]), WireFault>
-    ensures { GivesBy (λ x. (x.0, x.1.now)) result (named_at Unfinished total bytes.now) }
+fn read_unfinished(reader: &mut Reader<'_>) -> Result<Refusal, FieldFault>
+    ensures { Reads (λ x. x) result (named_at Unfinished) reader.old reader.new }
 {
-    let (id, rest) = id_at(total, bytes)?;
-    Ok((Refusal::Unfinished { id }, rest))
+    let id = read_id(reader)?;
+    Ok(Refusal::Unfinished { id })
 }
 
 #[tactic(auto, unfolding(crate::specs::Reading::named_at))]
-fn unstaged_at(total: usize, bytes: &[u8]) -> Result<(Refusal, &[u8]), WireFault>
-    ensures { GivesBy (λ x. (x.0, x.1.now)) result (named_at Unstaged total bytes.now) }
+fn read_unstaged(reader: &mut Reader<'_>) -> Result<Refusal, FieldFault>
+    ensures { Reads (λ x. x) result (named_at Unstaged) reader.old reader.new }
 {
-    let (id, rest) = id_at(total, bytes)?;
-    Ok((Refusal::Unstaged { id }, rest))
+    let id = read_id(reader)?;
+    Ok(Refusal::Unstaged { id })
 }
 
 #[tactic(auto, unfolding(crate::specs::Reading::numbered_at))]
-fn taken_at(total: usize, bytes: &[u8]) -> Result<(Refusal, &[u8]), WireFault>
-    ensures { GivesBy (λ x. (x.0, x.1.now)) result (numbered_at Taken total bytes.now) }
+fn read_taken(reader: &mut Reader<'_>) -> Result<Refusal, FieldFault>
+    ensures { Reads (λ x. x) result (numbered_at Taken) reader.old reader.new }
 {
-    let (number, rest) = entry_number_at(total, bytes)?;
-    let (id, rest) = id_at(total, rest)?;
-    Ok((Refusal::Taken { number, id }, rest))
+    let number = read_number(reader)?;
+    let id = read_id(reader)?;
+    Ok(Refusal::Taken { number, id })
 }
 
 #[tactic(auto, unfolding(crate::specs::Reading::counted_at))]
-fn gap_at(total: usize, bytes: &[u8]) -> Result<(Refusal, &[u8]), WireFault>
-    ensures { GivesBy (λ x. (x.0, x.1.now)) result (counted_at Gap total bytes.now) }
+fn read_gap(reader: &mut Reader<'_>) -> Result<Refusal, FieldFault>
+    ensures { Reads (λ x. x) result (counted_at Gap) reader.old reader.new }
 {
-    let (length, rest) = count_at(total, bytes)?;
-    Ok((Refusal::Gap { length }, rest))
+    let length = read_count(reader)?;
+    Ok(Refusal::Gap { length })
 }
 
 #[tactic(auto, unfolding(crate::specs::Reading::counted_at))]
-fn no_entry_at(total: usize, bytes: &[u8]) -> Result<(Refusal, &[u8]), WireFault>
-    ensures { GivesBy (λ x. (x.0, x.1.now)) result (counted_at NoEntry total bytes.now) }
+fn read_no_entry(reader: &mut Reader<'_>) -> Result<Refusal, FieldFault>
+    ensures { Reads (λ x. x) result (counted_at NoEntry) reader.old reader.new }
 {
-    let (length, rest) = count_at(total, bytes)?;
-    Ok((Refusal::NoEntry { length }, rest))
+    let length = read_count(reader)?;
+    Ok(Refusal::NoEntry { length })
 }
 
 fn side_of(role: u8) -> Side
@@ -99,50 +97,50 @@ fn side_of(role: u8) -> Side
     if role == 0 { Side::Lead } else { Side::Follow }
 }
 
+/// A role: 0 leads, 1 follows.
 #[tactic(auto, unfolding(crate::specs::Reading::role_at))]
-fn wrong_role_at(total: usize, bytes: &[u8]) -> Result<(Refusal, &[u8]), WireFault>
-    ensures { GivesBy (λ x. (x.0, x.1.now)) result (read_role total bytes.now) }
+fn read_wrong_role(reader: &mut Reader<'_>) -> Result<Refusal, FieldFault>
+    ensures { Reads (λ x. x) result role_at reader.old reader.new }
 {
-    let (role, rest) = role_at(total, bytes)?;
-    let role = side_of(role);
-    Ok((Refusal::WrongRole { role }, rest))
+    let role = side_of(reader.u8_in(0, 1)?);
+    Ok(Refusal::WrongRole { role })
 }
 
 #[tactic(auto, unfolding(crate::specs::Reading::later_code_at))]
-fn later_coded_at(total: usize, code: u8, bytes: &[u8]) -> Result<(Refusal, &[u8]), WireFault>
-    ensures { GivesBy (λ x. (x.0, x.1.now)) result (later_code_at code total bytes.now) }
+fn read_later_code(reader: &mut Reader<'_>, code: u8) -> Result<Refusal, FieldFault>
+    ensures { Reads (λ x. x) result (later_code_at code) reader.old reader.new }
 {
     match code {
-        8 => unstaged_at(total, bytes),
-        9 => taken_at(total, bytes),
-        10 => gap_at(total, bytes),
-        11 => wrong_role_at(total, bytes),
-        12 => Ok((Refusal::HistoryFull, bytes)),
-        13 => no_entry_at(total, bytes),
-        _ => Ok((Refusal::NoMemory, bytes)),
+        8 => read_unstaged(reader),
+        9 => read_taken(reader),
+        10 => read_gap(reader),
+        11 => read_wrong_role(reader),
+        12 => Ok(Refusal::HistoryFull),
+        13 => read_no_entry(reader),
+        _ => Ok(Refusal::NoMemory),
     }
 }
 
 #[tactic(auto, unfolding(crate::specs::Reading::code_at))]
-fn coded_at(total: usize, code: u8, bytes: &[u8]) -> Result<(Refusal, &[u8]), WireFault>
-    ensures { GivesBy (λ x. (x.0, x.1.now)) result (read_code code total bytes.now) }
+fn read_code(reader: &mut Reader<'_>, code: u8) -> Result<Refusal, FieldFault>
+    ensures { Reads (λ x. x) result (code_at code) reader.old reader.new }
 {
     match code {
-        1 => Ok((Refusal::NoFolder, bytes)),
-        2 => shape_at(total, bytes),
-        3 => retained_at(total, bytes),
-        4 => bad_member_at(total, bytes),
-        5 => past_at(total, bytes),
-        6 => clash_at(total, bytes),
-        7 => unfinished_at(total, bytes),
-        _ => later_coded_at(total, code, bytes),
+        1 => Ok(Refusal::NoFolder),
+        2 => read_shape_wrong(reader),
+        3 => read_unretained(reader),
+        4 => read_bad_member(reader),
+        5 => read_past(reader),
+        6 => read_clash(reader),
+        7 => read_unfinished(reader),
+        _ => read_later_code(reader, code),
     }
 }
 
 #[tactic(auto, unfolding(crate::specs::Reading::refusal_at))]
-pub fn refusal_at(total: usize, bytes: &[u8]) -> Result<(Refusal, &[u8]), WireFault>
-    ensures { GivesBy (λ x. (x.0, x.1.now)) result (read_refusal total bytes.now) }
+pub fn read_refusal(reader: &mut Reader<'_>) -> Result<Refusal, FieldFault>
+    ensures { Reads (λ x. x) result refusal_at reader.old reader.new }
 {
-    let (code, rest) = code_at(total, bytes)?;
-    coded_at(total, code, rest)
+    let code = reader.u8_in(1, 14)?;
+    read_code(reader, code)
 }

@@ -1,30 +1,23 @@
 //! Writers of the parts of a message. Each adds a part's spelling at the end of what is written so far.
-ghost use Rattle.std.specs.Prelude.{◌≡◌, ◌++◌, ◌∷◌, ◌<◌, ◌≤◌, ◌+◌, ◌*◌, ◌/◌, ◌%◌, ◌^◌, [], IfOk, OnOk, length, slice_index};
+ghost use Rattle.std.specs.Prelude.{◌≡◌, ◌++◌, ◌∷◌, [], OnOk};
 ghost use Rattle.std.specs.List.{flat_map};
 ghost use Rattle.std.specs.Int.{w16, to_be_bytes};
 ghost use Rattle.dory_base.specs.TagBytes.{tag_bytes};
+ghost use Rattle.dory_fields.specs.Bytes.{four};
 ghost use Rattle.dory_dpf.specs.KeyBytes.{bytes_of_key};
 ghost use Rattle.dory_wire.specs.Asked.{want_of};
-ghost use Rattle.dory_wire.specs.Spelling.{ask, change, entry, form_of_keys, four, found, id, line, packed, refusal, refusal_code, refusal_fields, role_byte, sum, want, want_kind, what, what_kind, IsFound, IsWhat};
+ghost use Rattle.dory_wire.specs.Spelling.{ask, change, entry, form_of_keys, found, id, line, refusal, refusal_code, refusal_fields, role_byte, sum, want, want_kind, what, what_kind, IsFound, IsWhat};
 
 use crate::message::{WantRef, What};
-use dory_base::{
-    AskId, Bits, Change, Entry, Found, NoMemory, Place, Refusal, Side, Sum, Tag, UpdateId,
-};
+use dory_base::{AskId, Change, Entry, Found, NoMemory, Place, Refusal, Side, Sum, Tag, UpdateId};
 use dory_dpf::Key;
-
-pub fn put_u32(out: &mut Vec<u8>, n: u32) -> Result<(), NoMemory>
-    ensures { OnOk result (out.new.items ≡ out.old.items ++ four n) }
-{
-    out.extend_from_slice(&n.to_be_bytes())?;
-    Ok(())
-}
+use dory_fields::{put_bits, put_u16, put_u32, put_u64};
 
 pub fn put_ask(out: &mut Vec<u8>, asked: &AskId) -> Result<(), NoMemory>
     ensures { OnOk result (out.new.items ≡ out.old.items ++ ask asked.now) }
 {
     put_u32(out, asked.member.0)?;
-    out.extend_from_slice(&asked.serial.to_be_bytes())?;
+    put_u64(out, asked.serial)?;
     put_u32(out, asked.step)
 }
 
@@ -32,8 +25,7 @@ fn put_id(out: &mut Vec<u8>, name: &UpdateId) -> Result<(), NoMemory>
     ensures { OnOk result (out.new.items ≡ out.old.items ++ id name.now) }
 {
     put_u32(out, name.member.0)?;
-    out.extend_from_slice(&name.serial.to_be_bytes())?;
-    Ok(())
+    put_u64(out, name.serial)
 }
 
 fn put_keys(out: &mut Vec<u8>, keys: &[Key]) -> Result<(), NoMemory>
@@ -133,7 +125,7 @@ pub fn kind_of_want(wanted: &WantRef<'_>) -> u8
 fn put_line(out: &mut Vec<u8>, place: &Place) -> Result<(), NoMemory>
     ensures { OnOk result (out.new.items ≡ out.old.items ++ line place.now) }
 {
-    out.extend_from_slice(&place.slot.to_be_bytes())?;
+    put_u16(out, place.slot)?;
     put_u32(out, place.doc.0)?;
     put_id(out, &place.id)
 }
@@ -143,23 +135,6 @@ fn put_lines(out: &mut Vec<u8>, places: &[Place]) -> Result<(), NoMemory>
 {
     for place in places {
         put_line(out, place)?;
-    }
-    Ok(())
-}
-
-fn byte_of(words: &[u64], place: usize) -> u8
-    requires { place / 8 < length words.now }
-    ensures { result ≡ slice_index words.now (place / 8) / 2 ^ (8 * (place % 8)) % 2 ^ 8 }
-{
-    ((words[place / 8] >> (8 * (place % 8))) % 256) as u8
-}
-
-fn put_bits(out: &mut Vec<u8>, bits: &Bits) -> Result<(), NoMemory>
-    ensures { OnOk result (out.new.items ≡ out.old.items ++ packed bits.now) }
-{
-    let words = bits.words();
-    for place in 0..(bits.len() + 7) / 8 {
-        out.push(byte_of(words, place))?;
     }
     Ok(())
 }
@@ -188,7 +163,7 @@ fn put_found(out: &mut Vec<u8>, holding: &Found) -> Result<(), NoMemory>
     let places = holding.manifest.items();
     let sums = holding.sums.items();
     put_u32(out, holding.version)?;
-    out.extend_from_slice(&(places.len() as u16).to_be_bytes())?;
+    put_u16(out, places.len() as u16)?;
     put_lines(out, places)?;
     out.push(sums.len() as u8)?;
     put_sums(out, sums)
@@ -239,7 +214,7 @@ fn put_fields(out: &mut Vec<u8>, code: &Refusal) -> Result<(), NoMemory>
         Refusal::ShapeWrong { depth, probes } => Ok(out.extend_from_slice(&[*depth, *probes])?),
         Refusal::Unretained { oldest, newest } => put_pair(out, *oldest, *newest),
         Refusal::BadMember { member } => put_u32(out, member.0),
-        Refusal::Past { last } => Ok(out.extend_from_slice(&last.to_be_bytes())?),
+        Refusal::Past { last } => put_u64(out, *last),
         Refusal::Clash { id } => put_id(out, id),
         Refusal::Unfinished { id } => put_id(out, id),
         Refusal::Unstaged { id } => put_id(out, id),

@@ -1,79 +1,54 @@
 //! Readers of an update that is to be staged.
-ghost use Rattle.std.specs.Prelude.{◌≡◌, ◌≤◌, ◌^◌};
-ghost use Rattle.dory_wire.specs.Reading.{GivesBy, change_at as read_change, entry_at as read_entry, post_at as read_post, tags_at as read_tags};
+ghost use Rattle.std.specs.Prelude.{◌≡◌, ◌≤◌};
+ghost use Rattle.dory_fields.specs.Reading.{Reads, many_at};
+ghost use Rattle.dory_wire.specs.Reading.{change_at, entry_at, post_at, tag_at};
 
-use crate::fault::WireFault;
-use crate::field::{
-    change_at, columns, depth_at, id_at, probes_at, shape_of, slice_at, tag_of, u32_at,
-};
-use crate::packed::bits_at;
-use dory_base::{Change, DocId, Entry, Tags};
+use crate::field::{read_depth, read_id, read_probes, read_tag};
+use dory_base::{Change, DocId, Entry, Shape, Tags};
+use dory_fields::{FieldFault, Reader};
 use std::alloc::Global;
 
-fn tags_at(
-    alloc: Global,
-    total: usize,
-    count: u16,
-    bytes: &[u8],
-) -> Result<(Tags, &[u8]), WireFault>
-    ensures { GivesBy (λ x. (x.0, x.1.now)) result (read_tags count total bytes.now) }
+fn read_tags(alloc: Global, reader: &mut Reader<'_>, count: usize) -> Result<Tags, FieldFault>
+    ensures { Reads (λ x. x) result (many_at tag_at count) reader.old reader.new }
 {
     let mut tags = Vec::new(alloc);
-    let mut rest = bytes;
     for _ in 0..count {
-        let (tag, after) = slice_at(total, 16, rest)?;
-        tags.push(tag_of(tag))?;
-        rest = after;
+        let tag = read_tag(reader)?;
+        tags.push(tag)?;
     }
-    Ok((Tags::of(tags), rest))
+    Ok(Tags::of(tags))
 }
 
 #[tactic(auto, unfolding(crate::specs::Reading::post_at))]
-fn post_at(alloc: Global, total: usize, bytes: &[u8]) -> Result<(Change, &[u8]), WireFault>
-    ensures { GivesBy (λ x. (x.0, x.1.now)) result (read_post total bytes.now) }
+fn read_post(alloc: Global, reader: &mut Reader<'_>) -> Result<Change, FieldFault>
+    ensures { Reads (λ x. x) result post_at reader.old reader.new }
 {
-    let (depth, rest) = depth_at(total, bytes)?;
-    let (probes, rest) = probes_at(total, rest)?;
-    let count = columns(depth);
-    let (row, rest) = match bits_at(alloc, total, count as usize, rest) {
-        Ok(found) => found,
-        Err(fault) => return Err(fault),
-    };
-    let (tags, rest) = match tags_at(alloc, total, count, rest) {
-        Ok(found) => found,
-        Err(fault) => return Err(fault),
-    };
-    let shape = shape_of(depth, probes);
-    Ok((Change::Post { shape, row, tags }, rest))
+    let depth = read_depth(reader)?;
+    let probes = read_probes(reader)?;
+    let shape = Shape::of(depth, probes);
+    let row = reader.bits(alloc, shape.columns())?;
+    let tags = read_tags(alloc, reader, shape.columns())?;
+    Ok(Change::Post { shape, row, tags })
 }
 
 #[tactic(auto, unfolding(crate::specs::Reading::change_at))]
-fn done_at(
-    alloc: Global,
-    does: u8,
-    total: usize,
-    bytes: &[u8],
-) -> Result<(Change, &[u8]), WireFault>
-    ensures { GivesBy (λ x. (x.0, x.1.now)) result (read_change does total bytes.now) }
+fn read_change(alloc: Global, reader: &mut Reader<'_>, does: u8) -> Result<Change, FieldFault>
+    ensures { Reads (λ x. x) result (change_at does) reader.old reader.new }
 {
     if does == 1 {
-        post_at(alloc, total, bytes)
+        read_post(alloc, reader)
     } else {
-        Ok((Change::Remove, bytes))
+        Ok(Change::Remove)
     }
 }
 
 #[tactic(auto, unfolding(crate::specs::Reading::entry_at))]
-pub fn entry_at(alloc: Global, total: usize, bytes: &[u8]) -> Result<(Entry, &[u8]), WireFault>
-    ensures { GivesBy (λ x. (x.0, x.1.now)) result (read_entry total bytes.now) }
+pub fn read_entry(alloc: Global, reader: &mut Reader<'_>) -> Result<Entry, FieldFault>
+    ensures { Reads (λ x. x) result entry_at reader.old reader.new }
 {
-    let (id, rest) = id_at(total, bytes)?;
-    let (doc, rest) = u32_at(total, rest)?;
-    let (does, rest) = change_at(total, rest)?;
-    let (change, rest) = match done_at(alloc, does, total, rest) {
-        Ok(found) => found,
-        Err(fault) => return Err(fault),
-    };
-    let doc = DocId(doc);
-    Ok((Entry { id, doc, change }, rest))
+    let id = read_id(reader)?;
+    let doc = DocId(reader.u32()?);
+    let does = reader.u8_in(1, 2)?;
+    let change = read_change(alloc, reader, does)?;
+    Ok(Entry { id, doc, change })
 }

@@ -4,7 +4,6 @@ ghost use Rattle.dory_dpf.specs.PointKey.{IsKeyOf};
 ghost use Rattle.dory_wire.specs.Spelling.{IsId, IsRefusal, IsReply, IsRequest};
 
 use super::*;
-use crate::field::shape_of;
 use dory_base::{
     AskId, Change, DocId, Entry, FolderId, MemberId, NoMemory, Refusal, Shape, Side, UpdateId,
 };
@@ -121,7 +120,7 @@ fn at_5_is_these_bytes_both_ways(rt: HostRuntime) -> Result<(), Fail> {
 fn key(short: bool, column: u8) -> Key
     ensures { IsKeyOf (if short then 2 else 1) 8 result }
 {
-    let shape = shape_of(8, 2);
+    let shape = Shape::of(8, 2);
     let (lead, _) = if short {
         gen_short(shape, column as u16, [0; 16], [0; 16])
     } else {
@@ -143,7 +142,7 @@ fn search(alloc: Global, short: bool) -> Result<Request, NoMemory>
         folder: FolderId(1),
         want: Want::Search {
             version: 9,
-            shape: shape_of(8, 2),
+            shape: Shape::of(8, 2),
             keys: Keys::of(keys),
         },
     })
