@@ -17,12 +17,12 @@ use Rattle.dory_seal.specs.Seal.{IsSealed}
 use Rattle.dory_dpf.specs.PointKey.{PointKey, shares_of}
 use Rattle.dory_query.specs.Pairs.{ArePairs}
 use Rattle.dory_query.proofs.KeyList.{pairs_of, within}
+use Rattle.dory_fields.specs.Bytes.{IsBytes}
 use Rattle.dory_wire.specs.declared.message.What.{What}
 use Rattle.dory_wire.specs.declared.message.What.TheVariants.{Found as Finds, Refused}
 use Rattle.dory_wire.specs.declared.message.Want.TheVariants.{Search}
 use Rattle.dory_wire.specs.Reading.{reply_in}
 use Rattle.dory_wire.specs.Read.{search_of, IsReadAs, oldest_of, found_of}
-use Rattle.dory_wire.proofs.Fields.{IsBytes}
 use Rattle.dory_link.specs.Told.{Told, Talk, Heard, IsFolderReply, Grown, Grows}
 use Rattle.dory_verify.specs.declared.answer.Answer.{Answer}
 use Rattle.dory_verify.specs.Honest.{IsFoundIn, IsSearch, IsRightOrForged, found_by}

@@ -18,11 +18,11 @@ use Rattle.dory_base.specs.Sum.{row_of, sum_of}
 use Rattle.dory_bloom.specs.Positions.{positions_of}
 use Rattle.dory_hmac.specs.declared.folder_keys.FolderKeys.{FolderKeys}
 use Rattle.dory_seal.specs.Seal.{mask_bit_of, plain_of}
+use Rattle.dory_fields.specs.Bytes.{IsBytes}
 use Rattle.dory_wire.specs.Spelling.{IsSum}
 use Rattle.dory_wire.specs.declared.message.What.{What}
 use Rattle.dory_wire.specs.declared.message.What.TheVariants.{Found as Finds}
 use Rattle.dory_wire.specs.declared.message.Reply.{Reply}
-use Rattle.dory_wire.proofs.Fields.{IsBytes}
 use Rattle.dory_verify.specs.declared.answer.Answer.{Answer}
 use Rattle.dory_verify.specs.declared.fault.VerifyError.{VerifyError}
 use Rattle.dory_verify.specs.declared.fault.CheckFault.{CheckFault}

@@ -9,6 +9,7 @@ use Rattle.dory_base.specs.declared.found.Place.{Place}
 use Rattle.dory_base.specs.declared.found.Sum.{Sum}
 use Rattle.dory_base.specs.declared.found.Found.{Found}
 use Rattle.dory_hmac.specs.declared.folder_keys.FolderKeys.{FolderKeys}
+use Rattle.dory_fields.specs.Bytes.{IsBytes}
 use Rattle.dory_wire.specs.declared.message.What.{What}
 use Rattle.dory_wire.specs.declared.message.What.TheVariants.{At, Found as Finds, Id, Staged, Committed, Refused}
 use Rattle.dory_wire.specs.declared.message.Reply.{Reply}
@@ -16,7 +17,6 @@ use Rattle.dory_wire.specs.declared.fault.WireFault.{WireFault}
 use Rattle.dory_wire.specs.Frame.{message_in}
 use Rattle.dory_wire.specs.Reading.{reply_of, reply_or_none, if_read}
 use Rattle.dory_wire.specs.Spelling.{IsWhat, IsFound}
-use Rattle.dory_wire.proofs.Fields.{IsBytes}
 use Rattle.dory_wire.proofs.FrameLaws.{frame_is}
 use Rattle.dory_wire.proofs.ReplyLaws.{reply_takes}
 use Rattle.dory_verify.specs.declared.fault.CheckFault.{CheckFault}

@@ -3,13 +3,16 @@ use Rattle.std.proofs.Common.{◌≡◌, ℕ, zero, suc, ◌+◌, ◌≤◌, Boo
 use Rattle.std.specs.Prelude.{nat_lt, ◌&&◌, ◌==◌}
 use Rattle.dory_base.specs.declared.ids.UpdateId.{UpdateId}
 use Rattle.std.specs.Int.{Width, w16, w32, w64, byte_len}
+use Rattle.dory_fields.proofs.Fields.{both_true}
+use Rattle.dory_fields.specs.Packing.{packed_len}
+use Rattle.dory_fields.specs.declared.fault.FieldFault.{FieldFault}
+use Rattle.dory_fields.specs.declared.fault.FieldFault.TheVariants.{CutShort}
+use Rattle.dory_fields.specs.Reading.{Read, many_at, ◌>>=◌, place, field_at, ranged, number_at, tested_at, byte_at, bits_at}
 use Rattle.dory_wire.specs.declared.fault.WireFault.{WireFault}
 use Rattle.dory_wire.specs.declared.fault.WireFault.TheVariants.{Kind, Body, Trailing, NoMemory}
 use Rattle.std.proofs.lemmas.Bool.{leb-true, eqb-true}
 use Rattle.dory_wire.specs.Frame.{is_length, length_in, message_in}
-use Rattle.dory_wire.proofs.Ranges.{both_true}
-use Rattle.dory_wire.specs.Spelling.{packed_len}
-use Rattle.dory_wire.specs.Reading.{◌>>=◌, Fails, place, field_at, ranged, number_at, tested_at, byte_at, ask_at, id_at, line_at, lines_at, bits_at, sum_at, sums_at, found_at, shape_at, retained_at, member_at, past_at, role_at, named_at, numbered_at, counted_at, later_code_at, code_at, refusal_at, holding_at, refused_at, what_at, ended, reply_at, reply_of, is_answering, is_count, is_lines, is_few, is_depth, is_probes, is_code, is_slot, is_number, is_role}
+use Rattle.dory_wire.specs.Reading.{tag_at, fault_of, Fails, ask_at, id_at, line_at, lines_at, sum_at, found_at, shape_at, retained_at, member_at, past_at, role_at, named_at, numbered_at, counted_at, later_code_at, code_at, refusal_at, holding_at, refused_at, what_at, ended, reply_at, reply_of, is_answering, is_count, is_lines, is_few, is_depth, is_probes, is_code, is_slot, is_number, is_role}
 
 -- the fault names a place within so many bytes, or none
 abbrev pub IsPlaced : ℕ → WireFault → Type 0
@@ -19,15 +22,20 @@ IsPlaced total (Trailing at) = at ≤ total
 IsPlaced total NoMemory = Unit {0}
 
 -- so does the fault of what was read
-abbrev pub IsNear : {A : Type 0} → ℕ → Result A WireFault → Type 0
+abbrev pub IsNear : {A : Type 0} → ℕ → Result A FieldFault → Type 0
 IsNear total (Ok x) = Unit {0}
-IsNear total (Err e) = IsPlaced total e
+IsNear total (Err e) = IsPlaced total (fault_of e)
 
-near_then : {A B : Type 0} (total : ℕ) (r : Result A WireFault) (f : A → Result B WireFault) → IsNear total r → ((x : A) → IsNear total (f x)) → IsNear total (r >>= f)
+-- so does the fault of a message
+abbrev IsPlacedBy : {A : Type 0} → ℕ → Result A WireFault → Type 0
+IsPlacedBy total (Ok x) = Unit {0}
+IsPlacedBy total (Err e) = IsPlaced total e
+
+near_then : {A B : Type 0} (total : ℕ) (r : Result A FieldFault) (f : A → Result B FieldFault) → IsNear total r → ((x : A) → IsNear total (f x)) → IsNear total (r >>= f)
 near_then total (Ok x) f h each = each x
 near_then total (Err e) f h each = h
 
-near_if : {A : Type 0} (total : ℕ) (b : Bool) (x y : Result A WireFault) → IsNear total x → IsNear total y → IsNear total (cond b x y)
+near_if : {A : Type 0} (total : ℕ) (b : Bool) (x y : Result A FieldFault) → IsNear total x → IsNear total y → IsNear total (cond b x y)
 near_if total true x y p q = p
 near_if total false x y p q = q
 
@@ -36,11 +44,11 @@ near_ranged total bytes true x = tt
 near_ranged total bytes false x = omega arith
 
 near_field : (n total : ℕ) (bytes : List ℕ) → IsNear total (field_at n total bytes)
-near_field n total bytes = near_if total (nat_lt (length bytes) n) (Err (Body (place total bytes))) _ (omega arith) tt
+near_field n total bytes = near_if total (nat_lt (length bytes) n) (Err (CutShort (place total bytes))) _ (omega arith) tt
 
 near_number : (w : Width) (total : ℕ) (bytes : List ℕ) → IsNear total (number_at w total bytes)
 unfolding number_at
-near_number w total bytes = near_if total (nat_lt (length bytes) (byte_len w)) (Err (Body (place total bytes))) _ (omega arith) tt
+near_number w total bytes = near_if total (nat_lt (length bytes) (byte_len w)) (Err (CutShort (place total bytes))) _ (omega arith) tt
 
 near_tested : (w : Width) (test : ℕ → Bool) (total : ℕ) (bytes : List ℕ) → IsNear total (tested_at w test total bytes)
 unfolding tested_at
@@ -77,18 +85,22 @@ near_bits : (n total : ℕ) (bytes : List ℕ) → IsNear total (bits_at n total
 unfolding bits_at
 near_bits n total bytes = near_then total (field_at (packed_len n) total bytes) _ (near_field (packed_len n) total bytes) (λ f. near_ranged total bytes _ _)
 
+near_tag : (total : ℕ) (bytes : List ℕ) → IsNear total (tag_at total bytes)
+unfolding tag_at
+near_tag total bytes = near_then total (field_at 16 total bytes) _ (near_field 16 total bytes) (λ tag. tt)
+
 near_sum : (lines total : ℕ) (bytes : List ℕ) → IsNear total (sum_at lines total bytes)
 unfolding sum_at
 near_sum lines total bytes =
     near_then total (bits_at lines total bytes) _ (near_bits lines total bytes) (λ bits.
-    near_then total (field_at 16 total bits.1) _ (near_field 16 total bits.1) (λ tag. tt))
+    near_then total (tag_at total bits.1) _ (near_tag total bits.1) (λ tag. tt))
 
-near_sums : (n lines total : ℕ) (bytes : List ℕ) → IsNear total (sums_at n lines total bytes)
-unfolding sums_at
-near_sums zero lines total bytes = tt
-near_sums (suc n) lines total bytes =
-    near_then total (sum_at lines total bytes) _ (near_sum lines total bytes) (λ first.
-    near_then total (sums_at n lines total first.1) _ (near_sums n lines total first.1) (λ more. tt))
+near_many : {A : Type 0} (one : ℕ → List ℕ → Read A) (n total : ℕ) (bytes : List ℕ) → ((rest : List ℕ) → IsNear total (one total rest)) → IsNear total (many_at one n total bytes)
+unfolding many_at
+near_many one zero total bytes each = tt
+near_many one (suc n) total bytes each =
+    near_then total (one total bytes) _ (each bytes) (λ first.
+    near_then total (many_at one n total first.1) _ (near_many one n total first.1 each) (λ more. tt))
 
 near_found : (total : ℕ) (bytes : List ℕ) → IsNear total (found_at total bytes)
 unfolding found_at
@@ -97,7 +109,7 @@ near_found total bytes =
     near_then total (tested_at w16 is_lines total version.1) _ (near_tested w16 is_lines total version.1) (λ count.
     near_then total (lines_at count.0 0 total count.1) _ (near_lines count.0 0 total count.1) (λ lines.
     near_then total (byte_at is_few total lines.1) _ (near_byte is_few total lines.1) (λ probes.
-    near_then total (sums_at probes.0 count.0 total probes.1) _ (near_sums probes.0 count.0 total probes.1) (λ sums. tt)))))
+    near_then total (many_at (sum_at count.0) probes.0 total probes.1) _ (near_many (sum_at count.0) probes.0 total probes.1 (near_sum count.0 total)) (λ sums. tt)))))
 
 near_shape : (total : ℕ) (bytes : List ℕ) → IsNear total (shape_at total bytes)
 unfolding shape_at
@@ -173,25 +185,32 @@ near_what kind total bytes =
     (near_if total (kind == 133) _ _ (near_numbered _ total bytes)
     (near_then total (refusal_at total bytes) _ (near_refusal total bytes) (λ code. tt))))))
 
-near_ended : {A : Type 0} (x : A) (total : ℕ) (bytes : List ℕ) → IsNear total (ended x total bytes)
-near_ended x total bytes = near_if total (length bytes == 0) (Ok x) (Err (Trailing (place total bytes))) tt (omega arith)
-
 near_reply : (kind total : ℕ) (bytes : List ℕ) → IsNear total (reply_at kind total bytes)
 unfolding reply_at
 near_reply kind total bytes =
     near_then total (ask_at total bytes) _ (near_ask total bytes) (λ ask.
-    near_then total (what_at kind total ask.1) _ (near_what kind total ask.1) (λ what. near_ended _ total what.1))
+    near_then total (what_at kind total ask.1) _ (near_what kind total ask.1) (λ what. tt))
 
-near_message : (message : List ℕ) → IsNear (length message) (reply_of message)
+placed_if : {A : Type 0} (total : ℕ) (b : Bool) (x y : Result A WireFault) → IsPlacedBy total x → IsPlacedBy total y → IsPlacedBy total (cond b x y)
+placed_if total true x y p q = p
+placed_if total false x y p q = q
+
+near_ended : {A : Type 0} (total : ℕ) (read : Read A) → IsNear total read → IsPlacedBy total (ended total read)
+near_ended total (Ok x) near = placed_if total (length x.1 == 0) (Ok x.0) (Err (Trailing (place total x.1))) tt (omega arith)
+near_ended total (Err e) near = near
+
+near_message : (message : List ℕ) → IsPlacedBy (length message) (reply_of message)
 unfolding reply_of
 near_message [] = omega arith
-near_message (kind ∷ bytes) = near_if (suc (length bytes)) (is_answering kind) _ _ (near_reply kind (suc (length bytes)) bytes) tt
+near_message (kind ∷ bytes) =
+    let total = suc (length bytes) in
+    placed_if total (is_answering kind) (ended total (reply_at kind total bytes)) (Err (Kind kind)) (near_ended total (reply_at kind total bytes) (near_reply kind total bytes)) tt
 
 -- the place of the first fault that a decoder names lies within the message
 fails_near : (message : List ℕ) (e : WireFault) → Fails e (reply_of message) → IsPlaced (length message) e
 fails_near message (Kind b) is = tt
-fails_near message (Body at) is = subst (IsNear (length message)) is (near_message message)
-fails_near message (Trailing at) is = subst (IsNear (length message)) is (near_message message)
+fails_near message (Body at) is = subst (IsPlacedBy (length message)) is (near_message message)
+fails_near message (Trailing at) is = subst (IsPlacedBy (length message)) is (near_message message)
 fails_near message NoMemory is = tt
 
 pub body_near : (message : List ℕ) (e : WireFault) (at : ℕ) → Fails e (reply_of message) → e ≡ Body at → at ≤ length message
