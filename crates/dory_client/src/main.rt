@@ -6,6 +6,7 @@ mod drive;
 mod end;
 mod file_keeper;
 mod go;
+mod help;
 mod input;
 mod run;
 mod said;
@@ -16,6 +17,7 @@ mod tests;
 
 use crate::end::{ClientEnd, client_text};
 use crate::file_keeper::FileKeeper;
+use crate::help::{HELP, VERSION};
 use crate::run::client_run;
 use dory_base::NoMemory;
 use dory_cli::UsageFault;
@@ -23,39 +25,11 @@ use dory_io::write_all;
 use dory_net::{StdSink, StdSource, TcpLink, typed_words};
 use std::alloc::Global;
 use std::fs::File;
-use std::io::{Read, Write};
+use std::io::{IsTerminal, Read, Write};
 use std::net::{Net, TcpStream};
 use std::process::ExitCode;
 use std::rt::Files;
 use std::{fs, io};
-
-/// What `--help` writes.
-const HELP: &str = "dory: a member of a shared folder, searched over two servers
-
-usage: dory STATE LEAD FOLLOW COMMAND
-
-STATE   the file that keeps the member's state, its master key among it
-LEAD    the lead's address, as 127.0.0.1:7001
-FOLLOW  the follower's address
-
-COMMAND is one of
-  init --folder N --member N --depth N --probes N --master HEX [--serial N]
-                begins the state of member 0 to 63: depth 8 to 11 and probes 1
-                to 8 as the servers have them, HEX the master key of the folder
-                in 64 digits, and a serial above all that this member ever used
-  post DOC      posts the document DOC, a number, whose text is standard input
-  remove DOC    removes it
-  search WORD   lists the documents that hold the word
-  resume        finishes an update that was broken off
-  latest        says how many updates each server has, and how many were seen
-  rotate        begins a new epoch of keys
-
-  --help     writes this text
-  --version  writes the version
-";
-
-/// What `--version` writes.
-const VERSION: &str = "dory 0.2.0\n";
 
 /// The status where no seed could be read.
 const NO_SEED: u8 = 13;
@@ -67,6 +41,11 @@ fn asked_text(words: &[String]) -> Option<&'static str> {
         [word] if word.as_str() == "--version" => Some(VERSION),
         _ => None,
     }
+}
+
+/// The addresses of the two servers are typed alike: whoever is there would be believed alone.
+fn is_one_server(words: &[String]) -> bool {
+    words.len() >= 3 && words[1] == words[2]
 }
 
 /// Thirty-two bytes of the system's random source, from which a command draws its keys.
@@ -154,7 +133,7 @@ fn written<O: Write + Drop>(alloc: Global, text: &str, stdout: O) -> ClientEnd {
     }
 }
 
-/// Tells an end other than `Done`, and answers the status.
+/// Tells an end other than `Done`, and answers the status. Who typed no command at a terminal is told of `--help`.
 fn told(rt: &HostRuntime, end: &ClientEnd) -> u8 {
     if *end != ClientEnd::Done {
         match client_text(rt.alloc(), end) {
@@ -165,6 +144,9 @@ fn told(rt: &HostRuntime, end: &ClientEnd) -> u8 {
                 let _ = eprintln!(rt; "dory: nomemory");
             }
         }
+    }
+    if *end == ClientEnd::Usage(UsageFault::NoCommand) && rt.stderr().is_terminal() {
+        let _ = eprintln!(rt; "dory: `dory --help` says what to type");
     }
     end.status()
 }
@@ -180,6 +162,11 @@ fn main(rt: HostRuntime) -> ExitCode {
         let _ = eprintln!(rt; "dory: seed");
         return ExitCode::from(NO_SEED);
     };
+    if is_one_server(&words) {
+        let _ = eprintln!(rt;
+            "dory: LEAD and FOLLOW are one address, so one domain alone would be believed"
+        );
+    }
     let end = over_servers(&rt, words, seed, rt.stdin(), rt.stdout());
     ExitCode::from(told(&rt, &end))
 }

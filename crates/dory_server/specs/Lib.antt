@@ -3,3 +3,4 @@ pub mod Line
 pub mod End
 pub mod Opening
 pub mod Served
+pub mod Faulty

@@ -25,7 +25,7 @@ pub enum ServerWords {
 }
 
 /// The word at a place.
-fn word(words: &[String], at: usize) -> Option<&str>
+pub fn word(words: &[String], at: usize) -> Option<&str>
     ensures { option_map (λ word. word.now) result ≡ slice_get (map string_bytes words.now) at }
 {
     match words.get(at) {
@@ -86,7 +86,7 @@ fn seats(words: &[String]) -> Result<u32, ServerWords>
 }
 
 /// The number at a place between the colons.
-fn number_between(word: &str, place: usize, least: u64, most: u64) -> Option<u64>
+pub fn number_between(word: &str, place: usize, least: u64, most: u64) -> Option<u64>
     ensures value { result ≡ number_at place least most (parted word.now) }
     ensures range { IfSome result (λ n. (least ≤ n) × (n ≤ most)) }
 {
@@ -147,7 +147,7 @@ fn folders(alloc: Global, words: &[String]) -> Result<FolderList, ServerWords>
 
 /// The words that name folders.
 #[tactic(auto, using(crate::proofs::FolderWords::no_folders, crate::proofs::FolderWords::later_words))]
-fn behind_seats(words: &[String]) -> &[String]
+pub fn behind_seats(words: &[String]) -> &[String]
     ensures { map string_bytes result.now ≡ drop 3 (map string_bytes words.now) }
 {
     if words.len() <= 3 {
