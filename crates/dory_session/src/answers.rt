@@ -1,5 +1,6 @@
 //! What a session needs of a domain.
 ghost use Rattle.std.specs.Prelude.{List};
+ghost use Rattle.dory_wire.specs.Cut.{IsMessage};
 ghost use Rattle.dory_domain.specs.Held.{Held};
 ghost use Rattle.dory_domain.specs.Answered.{Responds};
 
@@ -14,6 +15,7 @@ pub trait Answers {
 
     /// The frame that answers a message, by a step of its folder.
     fn answer(&mut self, alloc: Global, message: &[u8]) -> Result<Vec<u8>, WireFault>
+        requires { IsMessage message.now }
         ensures { Responds (folders self.old) message.now result (folders self.new) };
 }
 

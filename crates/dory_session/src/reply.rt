@@ -1,6 +1,7 @@
 //! The reply to a message.
 ghost use Rattle.std.specs.Prelude.{◌≡◌, IsErrOf, List, ℕ};
 ghost use Rattle.std.specs.Io.KnownBytes.{Appends};
+ghost use Rattle.dory_wire.specs.Cut.{IsMessage};
 ghost use Rattle.dory_io.specs.Causes.{HasCause};
 ghost use Rattle.dory_session.specs.Ends.{WritesReply, end_of_fault};
 
@@ -29,6 +30,7 @@ pub fn reply_to<D: Answers, O: Sink>(
     message: &[u8],
     out: &mut O,
 ) -> Result<(), How>
+    requires { IsMessage message.now }
     ensures replies { (part : List ℕ) × Appends (O.written out.old) (O.written out.new) part × WritesReply (D.folders core.old) message.now part (D.folders core.new) result }
     ensures cause { HasCause (O.faults out.old) (O.faults out.new) (IsErrOf result How.OutputFault) }
 {
