@@ -4,6 +4,7 @@ ghost use Rattle.dory_wire.specs.declared.message.Request.{Request as Asked};
 ghost use Rattle.dory_wire.specs.Reading.{request_in};
 ghost use Rattle.dory_link.specs.Told.{IsReplyFrame, Grows};
 ghost use Rattle.dory_link.specs.Folders.{told_folders};
+ghost use Rattle.dory_link.specs.InMemory.{IsFrameAnswered, MayHaveAnswered};
 
 use dory_domain::DomainCore;
 use dory_wire::{WireFault, whole_message};
@@ -27,6 +28,9 @@ pub fn answer(
     ensures copied { IfOk result (λ frames. frames.1.items ≡ frames.0.items) }
     ensures answers { IfOk result (λ frames. IsReplyFrame (Some (told_folders core.old.folders)) (Some (told_folders core.new.folders)) request.now frames.0.items) }
     ensures read { IfOk result (λ _. (asked : Asked) × (request_in request.now ≡ Some asked)) }
+    ensures answered { IfOk result (λ frames. IsFrameAnswered core.old.folders request.now frames.0.items core.new.folders) }
+    ensures refused { IsErrOf result AnswerError.NoRequest → core.new.folders ≡ core.old.folders }
+    ensures memory { IsErrOf result AnswerError.NoMemory → MayHaveAnswered core.old.folders request.now core.new.folders }
     ensures unread { IsErrOf result AnswerError.NoRequest → request_in request.now ≡ None }
 {
     let Some(message) = whole_message(request) else {

@@ -1,9 +1,13 @@
 //! A link to a domain's core in memory, which answers as a domain that is honest.
-ghost use Rattle.std.specs.Prelude.{◌≡◌, [], Some, map, IfOk};
+ghost use Rattle.std.specs.Prelude.{◌≡◌, ◌⊎◌, [], Some, None, IfOk, IsErrOf, IsTrue, map};
+ghost use Rattle.dory_io.specs.Causes.{HasCause, is_next_listed};
+ghost use Rattle.dory_wire.specs.Reading.{request_in};
+ghost use Rattle.dory_link.specs.InMemory.{after_ask, FailsWhere, FoldersAfter};
+ghost use Rattle.dory_link.specs.Told.{IsAsked, frames};
 ghost use Rattle.dory_link.specs.Folders.{told_folders};
 
 use crate::answer::{AnswerError, answer};
-use crate::exchange::{Exchange, keep};
+use crate::exchange::{Exchange, fail, keep};
 use crate::link::{Link, LinkError};
 use dory_base::NoMemory;
 use dory_domain::DomainCore;
@@ -54,22 +58,27 @@ impl Link for DomainLink {
 
     ghost faults = { λ l. l.fails.faults };
 
-    fn ask(&mut self, alloc: Global, request: &[u8]) -> Result<Vec<u8>, LinkError> {
+    fn ask(&mut self, alloc: Global, request: &[u8]) -> Result<Vec<u8>, LinkError>
+        ensures asked { IsAsked (record { exchanges = Some (map told_exchange self.old.exchanges.items); folders = Some (told_folders self.old.core.folders) }) (record { exchanges = Some (map told_exchange self.new.exchanges.items); folders = Some (told_folders self.new.core.folders) }) request.now (frames result) }
+        ensures cause { HasCause self.old.fails.faults self.new.fails.faults (IsErrOf result LinkError.Failed) }
+        // It fails where the ask is listed, or the frame is no request. Else the core's answer comes.
+        ensures failed { FailsWhere (IsTrue (is_next_listed self.old.fails) ⊎ (request_in request.now ≡ None)) result }
+        ensures answer { FoldersAfter self.old.core.folders request.now result self.new.core.folders }
+        ensures unreached { IsTrue (is_next_listed self.old.fails) → self.new.core.folders ≡ self.old.core.folders }
+        ensures counts { self.new.fails ≡ after_ask self.old.fails result }
+        ensures memory { IsErrOf result LinkError.NoMemory → self.new.exchanges.items ≡ self.old.exchanges.items }
+    {
+        let listed = self.fails.count_call();
         let asked = request.to_vec(alloc).map_err(|_| LinkError::NoMemory)?;
-        if self.fails.call() {
-            keep(&mut self.exchanges, asked, None)?;
-            return Err(LinkError::Failed);
+        if listed {
+            return Err(fail(&mut self.exchanges, &mut self.fails, asked));
         }
         match answer(alloc, &mut self.core, request) {
             Ok((frame, copy)) => {
                 keep(&mut self.exchanges, asked, Some(copy))?;
                 Ok(frame)
             }
-            Err(AnswerError::NoRequest) => {
-                self.fails.count();
-                keep(&mut self.exchanges, asked, None)?;
-                Err(LinkError::Failed)
-            }
+            Err(AnswerError::NoRequest) => Err(fail(&mut self.exchanges, &mut self.fails, asked)),
             Err(AnswerError::NoMemory) => Err(LinkError::NoMemory),
         }
     }
