@@ -4,7 +4,6 @@
 mod command;
 mod drive;
 mod end;
-mod file_keeper;
 mod go;
 mod help;
 mod input;
@@ -16,16 +15,16 @@ mod start;
 mod tests;
 
 use crate::end::{ClientEnd, client_text};
-use crate::file_keeper::FileKeeper;
 use crate::help::{HELP, VERSION};
 use crate::run::client_run;
 use dory_base::NoMemory;
 use dory_cli::UsageFault;
+use dory_files::{FileKeeper, occupied};
 use dory_io::write_all;
 use dory_net::{StdSink, StdSource, TcpLink, typed_words};
 use std::alloc::Global;
 use std::fs::File;
-use std::io::{IsTerminal, Read, Write};
+use std::io::{ErrorKind, IsTerminal, Read, Write};
 use std::net::{Net, TcpStream};
 use std::process::ExitCode;
 use std::rt::Files;
@@ -151,9 +150,20 @@ fn told(rt: &HostRuntime, end: &ClientEnd) -> u8 {
     end.status()
 }
 
+/// How a call ends that has no words: one isn't text, or memory ran out.
+fn words_end(error: &io::Error) -> ClientEnd {
+    if error.kind() == ErrorKind::OutOfMemory {
+        ClientEnd::NoMemory
+    } else {
+        ClientEnd::Usage(UsageFault::Words)
+    }
+}
+
 fn main(rt: HostRuntime) -> ExitCode {
-    let Ok(words) = typed_words(&rt) else {
-        return ExitCode::from(told(&rt, &ClientEnd::Usage(UsageFault::Words)));
+    let _standard = occupied(&rt);
+    let words = match typed_words(&rt) {
+        Ok(words) => words,
+        Err(error) => return ExitCode::from(told(&rt, &words_end(&error))),
     };
     if let Some(text) = asked_text(&words) {
         return ExitCode::from(told(&rt, &written(rt.alloc(), text, rt.stdout())));

@@ -5,7 +5,6 @@ mod archive;
 mod commands;
 mod epochs;
 mod failing;
-mod files;
 mod folder;
 mod lies;
 mod loopback;

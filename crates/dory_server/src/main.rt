@@ -13,10 +13,12 @@ use crate::end::ServerEnd;
 use crate::faulty::{word_fault, wrong_word};
 use crate::help::{HELP, VERSION};
 use crate::opening::serve_in_turn;
+use dory_files::occupied;
 use dory_io::write_all;
 use dory_kernel::{RowKernel, lane_parity};
 use dory_net::{StdSink, TcpBinder, typed_words};
-use std::io::Write;
+use std::io;
+use std::io::{ErrorKind, Write};
 use std::net::{Net, TcpListener, TcpStream};
 use std::process::ExitCode;
 use std::sync::Wait;
@@ -27,6 +29,15 @@ fn asked_text(words: &[String]) -> Option<&'static str> {
         [word] if word.as_str() == "--help" => Some(HELP),
         [word] if word.as_str() == "--version" => Some(VERSION),
         _ => None,
+    }
+}
+
+/// How a server ends that has no words: one isn't text, or memory ran out.
+fn words_end(error: &io::Error) -> ServerEnd {
+    if error.kind() == ErrorKind::OutOfMemory {
+        ServerEnd::NoMemory
+    } else {
+        ServerEnd::Usage { at: 0 }
     }
 }
 
@@ -63,16 +74,17 @@ fn tell(rt: &HostRuntime, words: &[String], end: &ServerEnd) {
 }
 
 fn main(rt: HostRuntime) -> ExitCode {
-    // Words that aren't text are no command line.
+    let _standard = occupied(&rt);
     let end = match typed_words(&rt) {
         Ok(words) => {
             let end = end_of(&rt, &words, RowKernel::new(lane_parity), rt.stdout());
             tell(&rt, &words, &end);
             end
         }
-        Err(_) => {
-            let _ = eprintln!(rt; "dory_server: usage 0");
-            ServerEnd::Usage { at: 0 }
+        Err(error) => {
+            let end = words_end(&error);
+            let _ = eprintln!(rt; "dory_server: {end}");
+            end
         }
     };
     ExitCode::from(end.status())
