@@ -1,5 +1,5 @@
 -- How a call is made of its parts.
-use Rattle.std.proofs.Common.{◌≡◌, ℕ, Bool, true, false, List, Option, None, Some, Result, Ok, Err, ap, sym, ◌∙◌, subst, inl, inr}
+use Rattle.std.proofs.Common.{◌≡◌, ℕ, Bool, true, false, List, [], Option, None, Some, Result, Ok, Err, ap, sym, ◌∙◌, subst, inl, inr}
 use Rattle.dory_io.specs.Bytes.{Stays, Tells}
 use Rattle.dory_link.specs.Told.{Heard}
 use Rattle.dory_cli.specs.declared.line.Line.{Line}
@@ -9,19 +9,23 @@ use Rattle.dory_state.specs.declared.kept.KeptState.{KeptState}
 use Rattle.dory_state.specs.declared.fault.StateFault.{StateFault}
 use Rattle.dory_member.specs.declared.command.Command.{Command}
 use Rattle.dory_member.specs.declared.phase.Run.{Run}
-use Rattle.dory_member.specs.Course.{begun, run_after}
+use Rattle.dory_bloom.specs.PlainRow.{plain_row_of}
+use Rattle.dory_words.specs.WordsIn.{words_in}
+use Rattle.dory_member.specs.declared.outcome.Fault.{Fault}
+use Rattle.dory_member.specs.Course.{begun, folder_keys, run_after}
 use Rattle.dory_member.specs.Machine.{saves_first}
 use Rattle.dory_client.specs.declared.start.Todo.{Todo}
+use Rattle.dory_client.specs.declared.start.Todo.TheVariants.{Post, Plain}
 use Rattle.dory_client.specs.declared.start.Start.{Start}
 use Rattle.dory_client.specs.declared.end.ClientEnd.{ClientEnd}
-use Rattle.dory_client.specs.Command.{HasCommand, NoCommand}
+use Rattle.dory_client.specs.Command.{HasCommand, HasText, NoCommand}
 use Rattle.dory_client.specs.CommandEnds.{CommandEnds, FirstSaveFailed, AskFailed, RanOut, CommandFailed, LastSaveFailed, CommandPrinted, CommandEndsFrom, IsBegun, NotBegun}
 use Rattle.dory_client.specs.CommandEnds as goes
 use Rattle.dory_client.specs.Kept.{KeepsIf, KeepsNow, OldOrNew}
 use Rattle.dory_client.specs.Run.{Acts, NotMade, Refused, NoRoom, Began, ActsIn, MayAct, StateBegins, Loads, Runs}
 use Rattle.dory_client.specs.Run as run
-use Rattle.dory_client.specs.Scene.{Input, IsUntouched, Scene, scene}
-use Rattle.dory_client.specs.Start.{start_of}
+use Rattle.dory_client.specs.Scene.{Input, IsUnread, IsUntouched, Scene, scene}
+use Rattle.dory_client.specs.Start.{start_of, command_of}
 use Rattle.dory_client.proofs.Finish.{stays_twice, untouched}
 
 abbrev Told : Type 0
@@ -83,8 +87,15 @@ begins_earlier first a b c written written' end same (run.Saved kept says) = run
 pub no_command : (r : Result KeptState StateFault) (k : KeptState) (seed : List ℕ) (t : Todo) (i i' : Input) (a : Scene) (end : ClientEnd) → r ≡ Ok k → IsKeptState k → NoCommand k t i i' end → MayAct r seed t i i' a a end
 no_command r k seed t i i' a end is range none = subst (λ (x : Result KeptState StateFault). MayAct x seed t i i' a a end) (sym is) (inr (range, NotMade none (untouched a)))
 
+-- a post that was read for isn't refused, and nothing else reads its input
+refused_unread : (k : KeptState) (seed : List ℕ) (t : Todo) (i i' : Input) (text : List ℕ) (f : Fault) → HasText k t i i' text → begun k seed (command_of k text t) ≡ Err f → IsUnread i i'
+refused_unread k seed (Post doc) i i' text f has e = absurd (has.0 seed doc (plain_row_of (folder_keys k) k.shape (words_in text)) f e)
+refused_unread k seed (Plain c) i i' text f has e = has
+
 went_on : (k : KeptState) (seed : List ℕ) (t : Todo) (c : Command) (i i' : Input) (a z : Scene) (end : ClientEnd) → HasCommand k t i i' (Ok c) → CommandEndsFrom k seed c a z end → Acts k seed t i i' a z end
-went_on k seed t c i i' a z end (text, has, is) (NotBegun f e u e') = Refused text f has (ap (begun k seed) (sym is) ∙ e) u e'
+went_on k seed t c i i' a z end (text, has, is) (NotBegun f e u e') =
+    let refused : begun k seed (command_of k text t) ≡ Err f = ap (begun k seed) (sym is) ∙ e in
+    Refused text f (refused_unread k seed t i i' text f has refused) refused u e'
 went_on k seed t c i i' a z end (text, has, is) (goes.NoRoom u e) = NoRoom text has u e
 went_on k seed t c i i' a z end (text, has, is) (IsBegun r e goes) = Began text r has (ap (begun k seed) (sym is) ∙ e) goes
 

@@ -90,15 +90,15 @@ pub data Cause (t : Todo) (end : ClientEnd) : Type 0 where
 fine_as : (t : Todo) (end x : ClientEnd) → end ≡ x → EndsFine x → Cause t end
 fine_as t end x is fine = Fine (subst EndsFine (sym is) fine)
 
-by_input : (t : Todo) (i i' : Input) (e : InputEnd) (end : ClientEnd) → HasNoText t i i' e → end ≡ input_end e → Cause t end
-by_input (Plain c) i i' e end has is = absurd has
-by_input (Post doc) i i' input.Fault end has is = ByInput is
-by_input (Post doc) i i' input.Long end has is = ByLength (λ left few. few) is
-by_input (Post doc) i i' input.NoMemory end has is = fine_as (Post doc) end ends.NoMemory is tt
+by_input : (k : KeptState) (t : Todo) (i i' : Input) (e : InputEnd) (end : ClientEnd) → HasNoText k t i i' e → end ≡ input_end e → Cause t end
+by_input k (Plain c) i i' e end has is = absurd has
+by_input k (Post doc) i i' input.Fault end has is = ByInput is
+by_input k (Post doc) i i' input.Long end has is = ByLength (λ left few. few) is
+by_input k (Post doc) i i' input.NoMemory end has is = fine_as (Post doc) end ends.NoMemory is tt
 
 not_made : (k : KeptState) (t : Todo) (i i' : Input) (end : ClientEnd) → IsReady k t → NoCommand k t i i' end → Cause t end
 not_made k t i i' end ready (Rattle.dory_client.specs.Command.Refused f e unread is) = absurd (never k [] [] t f ready (e []))
-not_made k t i i' end ready (Rattle.dory_client.specs.Command.NoText e has is) = by_input t i i' e end has is
+not_made k t i i' end ready (Rattle.dory_client.specs.Command.NoText e has is) = by_input k t i i' e end has is
 not_made k t i i' end ready (Rattle.dory_client.specs.Command.NoRoom text has is) = fine_as t end ends.NoMemory is tt
 
 by_stuck : (t : Todo) (end : ClientEnd) (r : Run) (o : Option Ask) (m n : Links) → Interrupted r o m n end → Cause t end

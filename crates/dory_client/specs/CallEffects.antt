@@ -78,7 +78,7 @@ pub record IsBegun (t : Todo) (seed : List ℕ) (input input' : Input) (before :
   pub is_kept : Tells before.kept (Some bytes)
   pub is_state : state_of bytes ≡ Ok k
   pub in_range : IsKeptState k
-  pub has_text : HasText t input input' text
+  pub has_text : HasText k t input input' text
   pub begins : begun k seed (command_of k text t) ≡ Ok run
 
 -- a line that was done: a first state, or a command in the state that is kept

@@ -31,12 +31,12 @@ IsQuiet input input' before after = IsUnread input input' × IsUntouched before 
 pub data Acts (k : KeptState) (seed : List ℕ) (t : Todo) (input input' : Input) (before after : Scene) (end : ClientEnd) : Type 0 where
   -- there is no command, since it is refused or its input has no text
   NotMade : NoCommand k t input input' end → IsUntouched before after → Acts k seed t input input' before after end
-  -- it is refused
-  Refused : (text : List ℕ) (f : Fault) → HasText t input input' text → begun k seed (command_of k text t) ≡ Err f → IsUntouched before after → end ≡ fault_end f → Acts k seed t input input' before after end
+  -- it is refused, and its input wasn't read
+  Refused : (text : List ℕ) (f : Fault) → IsUnread input input' → begun k seed (command_of k text t) ≡ Err f → IsUntouched before after → end ≡ fault_end f → Acts k seed t input input' before after end
   -- memory ran out where it was to begin
-  NoRoom : (text : List ℕ) → HasText t input input' text → IsUntouched before after → end ≡ ends.NoMemory → Acts k seed t input input' before after end
+  NoRoom : (text : List ℕ) → HasText k t input input' text → IsUntouched before after → end ≡ ends.NoMemory → Acts k seed t input input' before after end
   -- it began, and went on so
-  Began : (text : List ℕ) (run : Run) → HasText t input input' text → begun k seed (command_of k text t) ≡ Ok run → CommandEnds run before after end → Acts k seed t input input' before after end
+  Began : (text : List ℕ) (run : Run) → HasText k t input input' text → begun k seed (command_of k text t) ≡ Ok run → CommandEnds run before after end → Acts k seed t input input' before after end
 
 -- a first state is kept, and `ready` is written
 pub data StateBegins (first : KeptState) (kept kept' : Option (Option (List ℕ))) (written written' : Option (List ℕ)) (end : ClientEnd) : Type 0 where
