@@ -1,6 +1,6 @@
 //! Lines and states that are refused before anything is asked.
 
-use super::folder::{INIT, called, empty_folder, says, state};
+use super::folder::{INIT, called, called_with, empty_folder, says, state};
 use crate::end::{ClientEnd, client_text};
 use dory_cli::UsageFault;
 use dory_io::MemKeeper;
@@ -61,6 +61,20 @@ fn a_command_that_asks_is_refused_at_the_last_serial(rt: HostRuntime) -> Result<
     assert!(rt; came.end == ClientEnd::SerialEnd && came.end.status() == 11);
     assert!(rt; folder.lead.exchanges().is_empty() && folder.follow.exchanges().is_empty());
     assert!(rt; says(alloc, &mut folder, "resume", b"", b"nothing pending\n")?);
+    Ok(())
+}
+
+#[test]
+fn a_post_at_the_last_serial_reads_nothing(rt: HostRuntime) -> Result<(), Fail> {
+    let alloc = rt.alloc();
+    let mut folder = empty_folder(alloc, RowKernel::new(lane_parity), 2)?;
+    folder.keeper = MemKeeper::new(Some(state(alloc, u64::MAX, 0, 0)?), Vec::new(alloc));
+    // An input that fails at its first read, and one that is too long.
+    let came = called_with(alloc, &mut folder, "post 7", b"alpha", &[1], &[])?;
+    assert!(rt; came.end == ClientEnd::SerialEnd);
+    let long = vec![in alloc; b'a'; 8_388_609]?;
+    let came = called(alloc, &mut folder, "post 7", &long)?;
+    assert!(rt; came.end == ClientEnd::SerialEnd);
     Ok(())
 }
 
