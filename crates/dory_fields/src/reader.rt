@@ -43,6 +43,16 @@ impl<'a> Reader<'a> {
         Reader { total, rest }
     }
 
+    /// A second reader with as much left.
+    pub fn again(&self) -> Reader<'a>
+        ensures { result ≡ self.now }
+    {
+        Reader {
+            total: self.total,
+            rest: self.rest,
+        }
+    }
+
     /// How many bytes were taken: the place of the next field.
     pub fn place(&self) -> usize
         ensures { result ≡ place self.now.total self.now.rest }

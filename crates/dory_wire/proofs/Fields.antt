@@ -8,8 +8,10 @@ use Rattle.std.proofs.lemmas.Nat.{from_be_bytes-to_be_bytes_8}
 use Rattle.dory_base.specs.TagBytes.{tag_number, tag_bytes, tag_bytes-tag_number, tag_number_small, IsTagBytes}
 use Rattle.dory_base.specs.declared.ids.AskId.{AskId}
 use Rattle.dory_base.specs.declared.ids.UpdateId.{UpdateId}
+use Rattle.dory_fields.specs.declared.fault.FieldFault.{FieldFault}
 use Rattle.dory_fields.specs.Bytes.{IsBytes, four}
-use Rattle.dory_fields.specs.Reading.{field_at, ranged}
+use Rattle.dory_fields.specs.Reading.{Fails, field_at, ranged}
+use Rattle.dory_fields.proofs.Many.{fails_all}
 use Rattle.dory_fields.proofs.Fields.{IsBytes-drop, IsBytes-take, bind_ok, ok_is, ranged_ok, Takes, field_takes, field_again, wide32, wide64}
 use Rattle.dory_wire.specs.Spelling.{ask, id, IsAsk, IsId}
 use Rattle.dory_wire.specs.Reading.{ask_at, id_at, tag_at}
@@ -112,3 +114,13 @@ tag_takes total bytes x fits e =
 pub tag_read_again : (total t : ℕ) (rest : List ℕ) → IsTag t → tag_at total (tag_bytes t ++ rest) ≡ Ok (t, rest)
 unfolding tag_at
 tag_read_again total t rest is = rw (field_again 16 total (tag_bytes t) rest (length-tag_bytes t)) (λ i. Ok (tag_again t is i, rest))
+
+-- the field of a tag is read, and so is the tag
+pub tag_reads : (total : ℕ) (bytes field rest : List ℕ) → field_at 16 total bytes ≡ Ok (field, rest) → tag_at total bytes ≡ Ok (tag_number field, rest)
+unfolding tag_at
+tag_reads total bytes field rest e = rw e refl
+
+-- and its fault is the tag's
+pub tag_fails : (e : FieldFault) (total : ℕ) (bytes : List ℕ) → Fails e (field_at 16 total bytes) → Fails e (tag_at total bytes)
+unfolding tag_at
+tag_fails e total bytes = fails_all e (field_at 16 total bytes) (tag_at total bytes) (λ f h. rw h refl)

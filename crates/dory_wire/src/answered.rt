@@ -29,7 +29,7 @@ fn read_lines(alloc: Global, reader: &mut Reader<'_>, count: u16) -> Result<Vec<
     ensures rising { IfOk result (λ x. IsStrictlyIncreasing (map (λ p. p.slot) x.items)) }
     ensures value { Reads (λ x. x.items) result (lines_at count 0) reader.old reader.new }
 {
-    let mut places = Vec::new(alloc);
+    let mut places = Vec::with_capacity(alloc, count as usize)?;
     let mut least = 0u16;
     for _ in 0..count {
         let place = read_line(reader, least)?;
@@ -58,7 +58,7 @@ fn read_sums(
     requires { lines ≤ 4096 }
     ensures { Reads (λ x. x.items) result (many_at (sum_at lines) count) reader.old reader.new }
 {
-    let mut sums = Vec::new(alloc);
+    let mut sums = Vec::with_capacity(alloc, count as usize)?;
     for _ in 0..count {
         let sum = read_sum(alloc, reader, lines)?;
         sums.push(sum)?;

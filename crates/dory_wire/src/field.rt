@@ -1,6 +1,7 @@
 //! Readers of the single fields of messages.
-ghost use Rattle.std.specs.Prelude.{◌≡◌, ◌≤◌, IfOk};
+ghost use Rattle.std.specs.Prelude.{◌≡◌, ◌≤◌, IfOk, length};
 ghost use Rattle.std.specs.Int.{w32};
+ghost use Rattle.dory_base.specs.TagBytes.{tag_number};
 ghost use Rattle.dory_fields.specs.Reading.{Reads, byte_at, tested_at};
 ghost use Rattle.dory_wire.specs.Reading.{ask_at, id_at, is_count, is_depth, is_number, is_probes, tag_at};
 
@@ -64,10 +65,20 @@ pub fn read_id(reader: &mut Reader<'_>) -> Result<UpdateId, FieldFault>
     Ok(UpdateId { member, serial })
 }
 
+/// The tag that sixteen bytes are.
+pub fn tag_of(bytes: &[u8]) -> Tag
+    requires { length bytes.now ≡ 16 }
+    ensures { result ≡ tag_number bytes.now }
+{
+    let mut sixteen = [0u8; 16];
+    sixteen.copy_from_slice(bytes);
+    Tag::of(sixteen)
+}
+
 #[tactic(auto, unfolding(crate::specs::Reading::tag_at))]
 pub fn read_tag(reader: &mut Reader<'_>) -> Result<Tag, FieldFault>
     ensures { Reads (λ x. x) result tag_at reader.old reader.new }
 {
-    let sixteen = reader.array()?;
-    Ok(Tag::of(sixteen))
+    let field = reader.slice(16)?;
+    Ok(tag_of(field))
 }

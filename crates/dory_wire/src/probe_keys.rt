@@ -77,7 +77,7 @@ pub fn read_keys(
     requires depth { (8 ≤ depth) × (depth ≤ 11) }
     ensures { Reads (λ x. x.items) result (many_at (key_at form depth) count) reader.old reader.new }
 {
-    let mut keys = Vec::new(alloc);
+    let mut keys = Vec::with_capacity(alloc, count as usize)?;
     for _ in 0..count {
         let key = read_key(reader, form, depth)?;
         keys.push(key)?;

@@ -3,19 +3,22 @@ ghost use Rattle.std.specs.Prelude.{◌≡◌, ◌≤◌};
 ghost use Rattle.dory_fields.specs.Reading.{Reads, many_at};
 ghost use Rattle.dory_wire.specs.Reading.{change_at, entry_at, post_at, tag_at};
 
-use crate::field::{read_depth, read_id, read_probes, read_tag};
-use dory_base::{Change, DocId, Entry, Shape, Tags};
+use crate::field::{read_depth, read_id, read_probes, tag_of};
+use dory_base::{Change, DocId, Entry, Shape, Tag, Tags};
 use dory_fields::{FieldFault, Reader};
 use std::alloc::Global;
 
 fn read_tags(alloc: Global, reader: &mut Reader<'_>, count: usize) -> Result<Tags, FieldFault>
     ensures { Reads (λ x. x) result (many_at tag_at count) reader.old reader.new }
 {
-    let mut tags = Vec::new(alloc);
-    for _ in 0..count {
-        let tag = read_tag(reader)?;
-        tags.push(tag)?;
+    let mut tags = vec![in alloc; Tag::zero(); count]?;
+    // A post has thousands of tags: the place of a reader of the loop's own stays in registers.
+    let mut own = reader.again();
+    for i in 0..count {
+        let field = own.slice(16)?;
+        tags[i] = tag_of(field);
     }
+    *reader = own;
     Ok(Tags::of(tags))
 }
 

@@ -5,7 +5,7 @@ use Rattle.dory_wire.proofs.answered.read_lines.Goals as goal
 
 pub returns-in_err-place-clause-value : goal.returns-in_err-place-clause-value
 returns-in_err-place-clause-value c =
-    let p = err_from_is_err_and c.from_residual.result c.from_residual.ensures.1 in
+    let p = err_from_is_err_and c.from_residual-in_err-place.result c.from_residual-in_err-place.ensures.1 in
     rw (p.1, p.2) (lines_fail c.in_err-place.field-0.0 c.loop.places.items c.args.count c.loop.counter c.loop.least c.args.reader.now c.loop.reader c.read_line.new.reader c.loop-test.true c.in_err-place.ensures.value c.loop.invariant)
 
 pub loop-preserved : goal.loop-preserved

@@ -5,7 +5,7 @@ use Rattle.dory_wire.proofs.answered.read_sums.Goals as goal
 
 pub returns-in_err-sum : goal.returns-in_err-sum
 returns-in_err-sum c =
-    let p = err_from_is_err_and c.from_residual.result c.from_residual.ensures.1 in
+    let p = err_from_is_err_and c.from_residual-in_err-sum.result c.from_residual-in_err-sum.ensures.1 in
     rw (p.1, p.2) (many_fail (sum_at c.args.lines) c.in_err-sum.field-0.0 c.loop.sums.items c.args.count c.loop.counter c.args.reader.now c.loop.reader c.read_sum.new.reader c.loop-test.true c.in_err-sum.ensures c.loop.invariant)
 
 pub loop-preserved : goal.loop-preserved

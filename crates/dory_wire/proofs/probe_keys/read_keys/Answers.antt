@@ -5,7 +5,7 @@ use Rattle.dory_wire.proofs.probe_keys.read_keys.Goals as goal
 
 pub returns-in_err-key : goal.returns-in_err-key
 returns-in_err-key c =
-    let p = err_from_is_err_and c.from_residual.result c.from_residual.ensures.1 in
+    let p = err_from_is_err_and c.from_residual-in_err-key.result c.from_residual-in_err-key.ensures.1 in
     rw (p.1, p.2) (many_fail (key_at c.args.form c.args.depth) c.in_err-key.field-0.0 c.loop.keys.items c.args.count c.loop.counter c.args.reader.now c.loop.reader c.read_key.new.reader c.loop-test.true c.in_err-key.ensures c.loop.invariant)
 
 pub loop-preserved : goal.loop-preserved
