@@ -15,7 +15,8 @@ use dory_link::{Link, LinkError};
 use dory_member::{Member, Next};
 use std::alloc::Global;
 
-/// A frame as it came.
+/// A frame as it came. It stands apart since a call's result is known to hold bytes where it is returned, and no longer
+/// where it was matched.
 fn received(frame: Vec<u8>) -> Vec<u8>
     ensures same { result.items ≡ frame.items }
     ensures bytes { (i : ℕ) → slice_index result.items i < 256 }

@@ -81,7 +81,8 @@ fn act<L0: Link, L1: Link, K: Keeper, S: Source, O: Sink>(
     go(alloc, state, seed, command, lead, follow, keeper, out)
 }
 
-/// Reads the words and what is kept, and begins a state or acts in the one there is.
+/// Reads the words and what is kept, and begins a state or acts in the one there is. It stands apart from `client_run`,
+/// whose further clauses are proved of the one relation here.
 fn call<L0: Link, L1: Link, K: Keeper, S: Source, O: Sink>(
     alloc: Global,
     words: &[String],

@@ -26,7 +26,8 @@ impl Key {
     }
 }
 
-/// The length first, then the depth, then the bits that must be zero.
+/// The length first, then the depth, then the bits that must be zero. It stands apart from `decode`, whose further clauses
+/// are proved of this exact one.
 fn read_key(form: u8, depth: u8, bytes: &[u8]) -> Result<Key, KeyFault>
     requires form { (1 ≤ form) × (form ≤ 2) }
     requires depth { (8 ≤ depth) × (depth ≤ 11) }

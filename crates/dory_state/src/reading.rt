@@ -166,6 +166,7 @@ fn field_fault(total: usize, fault: FieldFault) -> StateFault
     }
 }
 
+/// The state that the bytes are. It stands apart from `read_state`, whose further clauses are proved of this exact one.
 #[tactic(auto, unfolding(crate::specs::Reading::state_of))]
 fn state_in(alloc: Global, bytes: &[u8]) -> Result<KeptState, StateFault>
     ensures { Gives result (state_of bytes.now) }
