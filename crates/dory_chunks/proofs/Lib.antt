@@ -4,3 +4,4 @@ pub mod PartLaws
 pub mod ColumnLaws
 pub mod TargetLaws
 pub mod VersionLaws
+pub mod Seeking

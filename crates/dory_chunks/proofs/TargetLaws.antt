@@ -13,7 +13,7 @@ use Rattle.dory_base.specs.declared.entry.Change.{Change}
 use Rattle.dory_base.specs.declared.entry.Change.TheVariants.{Post, Remove}
 use Rattle.dory_base.specs.Table.{Slots, has_doc, placed, emptied, changed, step}
 use Rattle.dory_base.specs.TableMeaning.{IsSlotOf}
-use Rattle.dory_chunks.specs.Marks.{mark_of, is_marked}
+use Rattle.dory_chunks.specs.Marks.{mark_of, is_marked, is_mark_of, is_slot_of}
 use Rattle.dory_chunks.specs.Target.{place_for, target_in, target_of, left_in, left_by, written, AreApart, IsAlone, IsTarget}
 
 -- ---- where a test holds first
@@ -69,11 +69,16 @@ marks_empty None = refl
 marks_empty (Some e) = refl
 
 -- the marks tell where a document is, and which slot is empty
-pub own_marked : (doc : DocId) (slots : Slots) → position (is_marked doc) (map mark_of slots) ≡ position (has_doc doc) slots
+own_marked : (doc : DocId) (slots : Slots) → position (is_marked doc) (map mark_of slots) ≡ position (has_doc doc) slots
 own_marked doc slots = position-map (is_marked doc) mark_of slots ∙ (λ i. position (λ s. marks_name doc s i) slots)
 
-pub empty_marked : (slots : Slots) → position is_none (map mark_of slots) ≡ position is_none slots
+empty_marked : (slots : Slots) → position is_none (map mark_of slots) ≡ position is_none slots
 empty_marked slots = position-map is_none mark_of slots ∙ (λ i. position (λ s. marks_empty s i) slots)
+
+-- the marks tell which slot is sought
+pub sought_marked : (doc : Option DocId) (slots : Slots) → position (is_mark_of doc) (map mark_of slots) ≡ position (is_slot_of doc) slots
+sought_marked None slots = empty_marked slots
+sought_marked (Some doc) slots = own_marked doc slots
 
 -- ---- what is written
 

@@ -1,27 +1,16 @@
 -- The version after one slot has changed.
-use Rattle.std.proofs.Common.{◌≡◌, ◌≢◌, ℕ, ◌+◌, ◌<◌, ◌≤◌, inl, inr, true, cond, ltb, List, [], ◌∷◌, ◌++◌, length, map, set, get_or, Option, Some, None, sym, ap, ◌∙◌, subst, arith, length-append}
+use Rattle.std.proofs.Common.{◌≡◌, ◌≢◌, ℕ, ◌+◌, ◌<◌, ◌≤◌, inl, inr, true, cond, ltb, List, [], ◌∷◌, length, get_or, Option, Some, None, refl, sym, ap, ◌∙◌, subst, arith, length-append}
 use Rattle.std.proofs.lemmas.Bool.{cases_Bool, cases_eq, ltb-false, false≢true, eqb-true}
-use Rattle.std.proofs.lemmas.List.{length-map, length-set, map-set, map-append}
+use Rattle.std.proofs.lemmas.List.{length-set}
 use Rattle.dory_base.specs.Dims.{Dims}
 use Rattle.dory_base.specs.declared.ids.DocId.{DocId}
 use Rattle.dory_base.specs.declared.entry.Entry.{Entry}
 use Rattle.dory_base.specs.Table.{Slots, has_doc}
 use Rattle.dory_base.specs.TableMeaning.{IsSlotOf}
-use Rattle.dory_chunks.specs.declared.marks.Mark.{Mark}
-use Rattle.dory_chunks.specs.Marks.{mark_of}
 use Rattle.dory_chunks.specs.Parts.{Part, slots_in, parts_with}
 use Rattle.dory_chunks.specs.Target.{written, AreApart, IsAlone}
 use Rattle.dory_chunks.specs.Versions.{AreTags, AreKept, AreParts, width_of}
 use Rattle.dory_chunks.proofs.PartLaws.{written_here, written_there, slots_written, parts_kept, length-slots_in}
-
-mark_written : (slots : Slots) (n : ℕ) (x : Option Entry)
-    → cond (ltb n (length (map mark_of slots))) (set (map mark_of slots) n (mark_of x)) (map mark_of slots ++ mark_of x ∷ []) ≡ map mark_of (written slots n x)
-mark_written slots n x =
-    ap (λ (l : ℕ). cond (ltb n l) (set (map mark_of slots) n (mark_of x)) (map mark_of slots ++ mark_of x ∷ [])) (length-map slots mark_of)
-    ∙ elim (cases_Bool (ltb n (length slots))) [
-      | inl lower ↦ rw lower (sym (map-set mark_of slots n x))
-      | inr higher ↦ rw higher (sym (map-append mark_of slots (x ∷ [])))
-    ]
 
 few_written : (slots : Slots) (n : ℕ) (x : Option Entry) → length slots ≤ 4096 → n ≤ length slots → n < 4096 → length (written slots n x) ≤ 4096
 few_written slots n x few h low =
@@ -30,18 +19,25 @@ few_written slots n x few h low =
       | inr higher ↦ rw higher (omega (arith, length-append slots (x ∷ []), ltb-false n (length slots) higher))
     ]
 
-longer : (slots : Slots) (n : ℕ) (x : Option Entry) → length (written slots n x) ≤ length slots + 1
-longer slots n x =
-    elim (cases_Bool (ltb n (length slots))) [
-      | inl lower ↦ rw lower (omega (arith, length-set slots n x))
-      | inr higher ↦ rw higher (omega (arith, length-append slots (x ∷ [])))
-    ]
-
-as_long : (slots : Slots) (n : ℕ) (x : Option Entry) → n < length slots → length (written slots n x) ≡ length slots
-as_long slots n x h =
+pub length_written : (slots : Slots) (n : ℕ) (x : Option Entry) → n ≤ length slots → length (written slots n x) ≡ cond (ltb n (length slots)) (length slots) (n + 1)
+length_written slots n x h =
     elim (cases_Bool (ltb n (length slots))) [
       | inl lower ↦ rw lower (length-set slots n x)
-      | inr higher ↦ let f : length slots ≤ n = ltb-false n (length slots) higher in absurd (omega arith)
+      | inr higher ↦ rw higher (omega (arith, h, length-append slots (x ∷ []), ltb-false n (length slots) higher))
+    ]
+
+longer : (n count : ℕ) → n ≤ count → cond (ltb n count) count (n + 1) ≤ count + 1
+longer n count h =
+    elim (cases_Bool (ltb n count)) [
+      | inl lower ↦ rw lower (omega arith)
+      | inr higher ↦ rw higher (omega arith)
+    ]
+
+as_long : (n count : ℕ) → n < count → cond (ltb n count) count (n + 1) ≡ count
+as_long n count h =
+    elim (cases_Bool (ltb n count)) [
+      | inl lower ↦ rw lower refl
+      | inr higher ↦ let f : count ≤ n = ltb-false n count higher in absurd (omega arith)
     ]
 
 posts_written : (shape : Dims) (slots : Slots) (n : ℕ) (x : Option Entry) → n ≤ length slots → IsSlotOf shape x → ((k : ℕ) → IsSlotOf shape (get_or slots k None))
@@ -77,39 +73,36 @@ apart_written slots n x h alone apart = λ i j doc first second.
     ]
 
 -- what is true of a version stays true
-pub record IsNext (shape : Dims) (slots : Slots) (parts : List Part) (marks : List (Option Mark)) (tags : List ℕ) : Type 0 where
-  pub kept : AreKept shape (slots_in (length marks) parts) marks tags
-  pub reach : AreParts (width_of shape) (length marks) parts
-  pub slots_are : slots_in (length marks) parts ≡ slots
+pub record IsNext (shape : Dims) (slots : Slots) (parts : List Part) (count : ℕ) (tags : List ℕ) : Type 0 where
+  pub kept : AreKept shape (slots_in count parts) tags
+  pub reach : AreParts (width_of shape) count parts
+  pub slots_are : slots_in count parts ≡ slots
 
-pub is_next : (shape : Dims) (parts now : List Part) (marks marked : List (Option Mark)) (tags sums : List ℕ) (n : ℕ) (x : Option Entry)
-    → AreKept shape (slots_in (length marks) parts) marks tags → AreParts (width_of shape) (length marks) parts
-    → n ≤ length (slots_in (length marks) parts) → n < 4096 → IsSlotOf shape x → IsAlone (slots_in (length marks) parts) n x
-    → marked ≡ cond (ltb n (length marks)) (set marks n (mark_of x)) (marks ++ mark_of x ∷ [])
+pub is_next : (shape : Dims) (parts now : List Part) (count more : ℕ) (tags sums : List ℕ) (n : ℕ) (x : Option Entry)
+    → AreKept shape (slots_in count parts) tags → AreParts (width_of shape) count parts
+    → n ≤ length (slots_in count parts) → n < 4096 → IsSlotOf shape x → IsAlone (slots_in count parts) n x
+    → more ≡ cond (ltb n count) count (n + 1)
     → now ≡ parts_with (width_of shape) parts n x
-    → AreTags shape (written (slots_in (length marks) parts) n x) sums
-    → IsNext shape (written (slots_in (length marks) parts) n x) now marked sums
-is_next shape parts now marks marked tags sums n x kept reach h low fits alone marks_are parts_are are =
-    let slots : Slots = slots_in (length marks) parts in
-    let count : length slots ≡ length marks = length-slots_in (length marks) parts in
-    let names : marked ≡ map mark_of (written slots n x) =
-    marks_are ∙ ap (λ (ms : List (Option Mark)). cond (ltb n (length ms)) (set ms n (mark_of x)) (ms ++ mark_of x ∷ [])) kept.marked ∙ mark_written slots n x in
-    let long : length (written slots n x) ≡ length marked = sym (length-map (written slots n x) mark_of) ∙ sym (ap (length {A = Option Mark}) names) in
-    let place : n ≤ length marks = omega (arith, count) in
-    let slots_are : slots_in (length marked) now ≡ written slots n x =
-    ap (slots_in (length marked)) parts_are ∙ slots_written (width_of shape) (length marks) (length marked) parts n x reach place long in
-    let more : length marked ≤ length marks + 1 = omega (arith, long, count, longer slots n x) in
-    let same : n < length marks → length marked ≡ length marks = λ near. sym long ∙ as_long slots n x (omega (arith, count)) ∙ count in
-    let after : AreKept shape (written slots n x) marked sums = record {
+    → AreTags shape (written (slots_in count parts) n x) sums
+    → IsNext shape (written (slots_in count parts) n x) now more sums
+is_next shape parts now count more tags sums n x kept reach h low fits alone more_is parts_are are =
+    let slots : Slots = slots_in count parts in
+    let all : length slots ≡ count = length-slots_in count parts in
+    let place : n ≤ count = omega (arith, all) in
+    let long : length (written slots n x) ≡ more = length_written slots n x h ∙ ap (λ (k : ℕ). cond (ltb n k) k (n + 1)) all ∙ sym more_is in
+    let slots_are : slots_in more now ≡ written slots n x =
+    ap (slots_in more) parts_are ∙ slots_written (width_of shape) count more parts n x reach place long in
+    let few : more ≤ count + 1 = omega (arith, more_is, longer n count place) in
+    let same : n < count → more ≡ count = λ near. more_is ∙ as_long n count near in
+    let after : AreKept shape (written slots n x) sums = record {
       dims = kept.dims;
       few = few_written slots n x kept.few h low;
       posts = posts_written shape slots n x h fits kept.posts;
       apart = apart_written slots n x h alone kept.apart;
-      marked = names;
       sums = are;
     } in
     record {
-      kept = subst (λ (s : Slots). AreKept shape s marked sums) (sym slots_are) after;
-      reach = subst (AreParts (width_of shape) (length marked)) (sym parts_are) (parts_kept (width_of shape) (length marks) (length marked) parts n x reach place more same);
+      kept = subst (λ (s : Slots). AreKept shape s sums) (sym slots_are) after;
+      reach = subst (AreParts (width_of shape) more) (sym parts_are) (parts_kept (width_of shape) count more parts n x reach place few same);
       slots_are = slots_are;
     }

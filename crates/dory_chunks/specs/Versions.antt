@@ -1,10 +1,8 @@
 -- What is true of every version.
-use Rattle.std.specs.Prelude.{ℕ, ◌≡◌, ◌+◌, ◌*◌, ◌/◌, ◌^◌, ◌<◌, ◌≤◌, List, length, map, slice_index, slice_index_or, Option, None}
+use Rattle.std.specs.Prelude.{ℕ, ◌≡◌, ◌+◌, ◌*◌, ◌/◌, ◌^◌, ◌<◌, ◌≤◌, List, length, slice_index, slice_index_or, None}
 use Rattle.dory_base.specs.Dims.{Dims, IsDims}
 use Rattle.dory_base.specs.Table.{Slots}
 use Rattle.dory_base.specs.TableMeaning.{IsSlotOf, column_tag_of}
-use Rattle.dory_chunks.specs.declared.marks.Mark.{Mark}
-use Rattle.dory_chunks.specs.Marks.{mark_of}
 use Rattle.dory_chunks.specs.Parts.{Part, IsPart, part_at}
 use Rattle.dory_chunks.specs.Target.{AreApart}
 
@@ -17,13 +15,12 @@ pub record AreTags (shape : Dims) (slots : Slots) (tags : List ℕ) : Type 0 whe
   pub columns : length tags ≡ 2 ^ shape.depth
   pub tagged : (column : ℕ) → column < 2 ^ shape.depth → slice_index tags column ≡ column_tag_of slots column
 
--- slots of this shape, each document in one of them, beside their marks and their columns' tags
-pub record AreKept (shape : Dims) (slots : Slots) (marks : List (Option Mark)) (tags : List ℕ) : Type 0 where
+-- slots of this shape, each document in one of them, beside their columns' tags
+pub record AreKept (shape : Dims) (slots : Slots) (tags : List ℕ) : Type 0 where
   pub dims : IsDims shape
   pub few : length slots ≤ 4096
   pub posts : (n : ℕ) → IsSlotOf shape (slice_index_or slots n None)
   pub apart : AreApart slots
-  pub marked : marks ≡ map mark_of slots
   pub sums : AreTags shape slots tags
 
 -- the slots lie in these chunks

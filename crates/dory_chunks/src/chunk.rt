@@ -1,38 +1,42 @@
-//! A chunk of 64 slots: each entry behind an `Arc` of its own, and the words of all rows in one block.
-ghost use Rattle.std.specs.Prelude.{◌≡◌, ◌+◌, ◌*◌, ◌<◌, ◌≤◌, ℕ, length, map, vec_len, slice_range, slice_index_or, slice_set, replicate, IfOk, IfSome, IfNone, Option, Some, None};
+//! A chunk of 64 slots: each entry behind an `Arc` of its own, the slots' marks, and the words of all rows in one block.
+ghost use Rattle.std.specs.Prelude.{◌≡◌, ◌+◌, ◌*◌, ◌<◌, ◌≤◌, ℕ, length, map, vec_len, slice_range, slice_index_or, slice_set, replicate, position, IfOk, IfSome, IfNone, Option, Some, None};
 ghost use Rattle.std.specs.Option.{option_map, option_copied};
 ghost use Rattle.std.specs.Arc.{arc_value};
 ghost use Rattle.dory_base.specs.declared.entry.Entry.{Entry};
 ghost use Rattle.dory_base.specs.Sum.{row_of};
 ghost use Rattle.dory_base.specs.TableMeaning.{Shows};
+ghost use Rattle.dory_chunks.specs.Marks.{mark_of, is_slot_of};
 ghost use Rattle.dory_chunks.specs.Parts.{Part, IsPart, HasWidth, put_in, empty_part};
 
 use crate::Steps;
-use dory_base::{Change, Entry, NoMemory};
+use crate::marks::{Mark, first_marked, marked};
+use dory_base::{Change, DocId, Entry, NoMemory};
 use std::alloc::Global;
 use std::marker::Model;
 use std::sync::Arc;
 use std::sync::ledger::Ledger;
 
-/// 64 slots, and the sealed cells of each live one.
+/// 64 slots, with the mark and the sealed cells of each live one.
 #[derive(Drop)]
 pub struct Chunk {
     width: usize,
+    marks: Vec<Option<Mark>>,
     entries: Vec<Option<Arc<Entry>>>,
     rows: Vec<u64>,
 }
 
 impl Model for Chunk {
-    ghost use Rattle.std.specs.Prelude.{map};
+    ghost use Rattle.std.specs.Prelude.{◌≡◌, map};
     ghost use Rattle.std.specs.Option.{option_map};
     ghost use Rattle.std.specs.Arc.{arc_value};
+    ghost use Rattle.dory_chunks.specs.Marks.{mark_of};
     ghost use Rattle.dory_chunks.specs.Parts.{Part, IsChunk};
 
     ghost Value = { Part };
 
     ghost view = { λ c. record { width = c.width; slots = map (option_map arc_value) c.entries.items } };
 
-    ghost invariant = { λ c. IsChunk c.width (map (option_map arc_value) c.entries.items) c.rows.items };
+    ghost invariant = { λ c. IsChunk c.width (map (option_map arc_value) c.entries.items) c.rows.items × (c.marks.items ≡ map mark_of (map (option_map arc_value) c.entries.items)) };
 }
 
 fn shared(slot: &Option<Arc<Entry>>) -> Result<Option<Arc<Entry>>, NoMemory>
@@ -70,8 +74,9 @@ fn copied(
     Ok(all)
 }
 
-fn empty_slots(alloc: Global) -> Result<Vec<Option<Arc<Entry>>>, NoMemory>
-    ensures { IfOk result (λ v. map (option_map arc_value) v.items ≡ replicate 64 None) }
+/// Nothing for each slot.
+fn empty_slots<T: Drop>(alloc: Global) -> Result<Vec<Option<T>>, NoMemory>
+    ensures { IfOk result (λ v. v.items ≡ replicate 64 None) }
 {
     let mut all = Vec::with_capacity(alloc, 64)?;
     for at in 0..64usize {
@@ -113,7 +118,7 @@ fn write_words(rows: &mut Vec<u64>, start: usize, words: &[u64])
 }
 
 impl Chunk {
-    /// A chunk of empty slots. It counts.
+    /// A chunk of empty slots. It counts, also where memory runs out.
     pub fn empty<L: Ledger>(
         alloc: Global,
         width: usize,
@@ -121,28 +126,32 @@ impl Chunk {
     ) -> Result<Chunk, NoMemory>
         requires { width ≤ 32 }
         ensures value { IfOk result (λ c. c ≡ empty_part width) }
-        ensures cost { steps.new ≤ steps.old + 1 }
+        ensures cost { steps.new ≡ steps.old + 1 }
     {
         steps.tick();
+        let marks = empty_slots(alloc)?;
         let entries = empty_slots(alloc)?;
         let rows = vec![in alloc; 0u64; 64 * width]?;
         Ok(Chunk {
             width,
+            marks,
             entries,
             rows,
         })
     }
 
-    /// An equal chunk, whose entries are shared. It counts.
+    /// An equal chunk, whose entries are shared. It counts, also where memory runs out.
     pub fn copy<L: Ledger>(&self, alloc: Global, steps: &mut Steps<L>) -> Result<Chunk, NoMemory>
         ensures value { IfOk result (λ c. c ≡ self.now) }
-        ensures cost { steps.new ≤ steps.old + 1 }
+        ensures cost { steps.new ≡ steps.old + 1 }
     {
         steps.tick();
+        let marks = self.marks.as_slice().to_vec(alloc)?;
         let entries = copied(alloc, &self.entries)?;
         let rows = self.rows.as_slice().to_vec(alloc)?;
         Ok(Chunk {
             width: self.width,
+            marks,
             entries,
             rows,
         })
@@ -154,6 +163,7 @@ impl Chunk {
         requires width { HasWidth self.old.width (option_map arc_value slot) }
         ensures { self.new ≡ put_in self.old place (option_map arc_value slot) }
     {
+        let mark = marked(entry_of(&slot));
         if let Some(entry) = entry_of(&slot) {
             write_words(
                 &mut self.rows,
@@ -162,6 +172,22 @@ impl Chunk {
             );
         }
         self.entries[place] = slot;
+        self.marks[place] = mark;
+    }
+
+    /// The mark of a slot.
+    pub fn mark(&self, place: usize) -> Option<Mark>
+        requires { place < 64 }
+        ensures { result ≡ mark_of (slice_index_or self.now.slots place None) }
+    {
+        self.marks[place]
+    }
+
+    /// The first slot of this document, or the first empty one where none is named.
+    pub fn first(&self, doc: Option<DocId>) -> Option<usize>
+        ensures { result ≡ position (is_slot_of doc) self.now.slots }
+    {
+        first_marked(&self.marks, doc)
     }
 
     /// What a slot has.

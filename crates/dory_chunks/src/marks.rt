@@ -1,12 +1,10 @@
-//! Which document and which update each slot has: one short list, so that nothing that looks for a slot goes over entries.
-ghost use Rattle.std.specs.Prelude.{◌≡◌, ◌∷◌, [], ◌++◌, ◌≤◌, nat_lt, if◌then◌else◌, IfOk, position, is_none, length, map, slice_set};
+//! Which document and which update a slot has: short lists, so that nothing that looks for a slot goes over entries.
+ghost use Rattle.std.specs.Prelude.{◌≡◌, position};
 ghost use Rattle.std.specs.Option.{option_copied};
-ghost use Rattle.dory_chunks.specs.Marks.{is_marked, mark_of};
-ghost use Rattle.dory_chunks.specs.Places.{places_of};
+ghost use Rattle.dory_chunks.specs.Marks.{is_marked, is_mark_of, mark_of};
 ghost use Rattle.dory_chunks.specs.Target.{place_for};
 
-use dory_base::{DocId, Entry, NoMemory, Place, UpdateId};
-use std::alloc::Global;
+use dory_base::{DocId, Entry, UpdateId};
 
 /// The document and the update in a slot.
 #[derive(Clone, Copy, Debug)]
@@ -24,18 +22,21 @@ fn names(mark: &Option<Mark>, doc: DocId) -> bool
     }
 }
 
-/// The first slot of this document.
-pub fn own_slot(marks: &[Option<Mark>], doc: DocId) -> Option<usize>
-    ensures { result ≡ position (is_marked doc) marks.now }
+/// Whether the mark is of this document, or there is none where none is named.
+fn is_of(mark: &Option<Mark>, doc: Option<DocId>) -> bool
+    ensures { result ≡ is_mark_of doc mark.now }
 {
-    marks.iter().position(|mark| names(mark, doc))
+    match doc {
+        None => mark.is_none(),
+        Some(doc) => names(mark, doc),
+    }
 }
 
-/// The lowest empty slot.
-pub fn empty_slot(marks: &[Option<Mark>]) -> Option<usize>
-    ensures { result ≡ position is_none marks.now }
+/// The first mark of this document, or the first empty one where none is named.
+pub fn first_marked(marks: &[Option<Mark>], doc: Option<DocId>) -> Option<usize>
+    ensures { result ≡ position (is_mark_of doc) marks.now }
 {
-    marks.iter().position(|mark| mark.is_none())
+    marks.iter().position(|mark| is_of(mark, doc))
 }
 
 /// The slot for a post whose document has this slot, where this one is the lowest empty one and there are so many.
@@ -60,40 +61,4 @@ pub fn marked(slot: Option<&Entry>) -> Option<Mark>
             id: entry.id,
         }),
     }
-}
-
-/// These marks with another at one slot, or behind the last.
-pub fn marks_with(
-    alloc: Global,
-    marks: &[Option<Mark>],
-    at: usize,
-    mark: Option<Mark>,
-) -> Result<Vec<Option<Mark>>, NoMemory>
-    ensures { IfOk result (λ v. v.items ≡ (if nat_lt at (length marks.now) then slice_set marks.now at mark else marks.now ++ mark ∷ [])) }
-{
-    let mut all = marks.to_vec(alloc)?;
-    if at < marks.len() {
-        all[at] = mark;
-    } else {
-        all.push(mark)?;
-    }
-    Ok(all)
-}
-
-/// The live slots in order.
-pub fn places(alloc: Global, marks: &[Option<Mark>]) -> Result<Vec<Place>, NoMemory>
-    requires { length marks.now ≤ 4096 }
-    ensures { IfOk result (λ all. all.items ≡ places_of marks.now) }
-{
-    let mut all = Vec::new(alloc);
-    for at in 0..marks.len() {
-        if let Some(mark) = &marks[at] {
-            all.push(Place {
-                slot: at as u16,
-                doc: mark.doc,
-                id: mark.id,
-            })?;
-        }
-    }
-    Ok(all)
 }

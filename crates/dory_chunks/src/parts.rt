@@ -41,7 +41,7 @@ fn replaced<L: Ledger>(
     requires near { n / 64 < length chunks.now.items }
     requires width { HasWidth (part_at (map arc_value chunks.now.items) (n / 64)).width (option_map arc_value slot) }
     ensures value { IfOk result (λ v. map arc_value v.items ≡ slice_set (map arc_value chunks.now.items) (n / 64) (put_in (part_at (map arc_value chunks.now.items) (n / 64)) (n % 64) (option_map arc_value slot))) }
-    ensures cost { steps.new ≤ steps.old + 1 }
+    ensures cost { steps.new ≡ steps.old + 1 }
 {
     let mut chunk = chunk_at(chunks, n / 64).copy(alloc, steps)?;
     chunk.put(n % 64, slot);
@@ -62,7 +62,7 @@ fn grown<L: Ledger>(
     requires narrow { width ≤ 32 }
     requires width { HasWidth width (option_map arc_value slot) }
     ensures value { IfOk result (λ v. map arc_value v.items ≡ map arc_value chunks.now.items ++ put_in (empty_part width) (n % 64) (option_map arc_value slot) ∷ []) }
-    ensures cost { steps.new ≤ steps.old + 1 }
+    ensures cost { steps.new ≡ steps.old + 1 }
 {
     let mut chunk = Chunk::empty(alloc, width, steps)?;
     chunk.put(n % 64, slot);
@@ -71,7 +71,8 @@ fn grown<L: Ledger>(
     Ok(all)
 }
 
-/// The list with something else in the slot of this number. One chunk is copied, or made where there is none yet.
+/// The list with something else in the slot of this number. One chunk is copied, or made where there is none yet, which
+/// counts also where memory runs out.
 pub fn chunks_with<L: Ledger>(
     alloc: Global,
     chunks: &Vec<Arc<Chunk>>,
@@ -84,7 +85,7 @@ pub fn chunks_with<L: Ledger>(
     requires widths { (q : ℕ) → q < length chunks.now.items → (part_at (map arc_value chunks.now.items) q).width ≡ width }
     requires width { HasWidth width (option_map arc_value slot) }
     ensures value { IfOk result (λ v. map arc_value v.items ≡ parts_with width (map arc_value chunks.now.items) n (option_map arc_value slot)) }
-    ensures cost { steps.new ≤ steps.old + 1 }
+    ensures cost { steps.new ≡ steps.old + 1 }
 {
     if n / 64 < chunks.len() {
         replaced(alloc, chunks, n, slot, steps)

@@ -1,20 +1,22 @@
 //! A folder's documents at one version. The next version shares all chunks but the one that an update changes.
-ghost use Rattle.std.specs.Prelude.{◌≡◌, ◌<◌, ◌≤◌, ◌+◌, ◌++◌, ◌∷◌, ℕ, [], List, IfOk, IfSome, IfNone, None, length, slice_index_or};
+ghost use Rattle.std.specs.Prelude.{◌≡◌, ◌<◌, ◌≤◌, ◌+◌, ◌++◌, ◌∷◌, ℕ, [], List, IfOk, IfSome, IfNone, Some, None, nat_lt, if◌then◌else◌, length, position, slice_index_or};
 ghost use Rattle.std.specs.Option.{option_map, option_copied};
 ghost use Rattle.std.specs.Arc.{arc_value};
 ghost use Rattle.dory_base.specs.declared.entry.Entry.{Entry};
 ghost use Rattle.dory_base.specs.History.{IsChangeOf};
-ghost use Rattle.dory_base.specs.Table.{step};
-ghost use Rattle.dory_base.specs.TableMeaning.{IsSlotOf, StandsFor, next_of};
-ghost use Rattle.dory_chunks.specs.Target.{IsTarget, left_by, written, IsAlone};
+ghost use Rattle.dory_base.specs.Table.{step, manifest_of};
+ghost use Rattle.dory_base.specs.TableMeaning.{IsKept, IsSlotOf, StandsFor, next_of};
+ghost use Rattle.dory_chunks.specs.Marks.{mark_of, is_slot_of};
+ghost use Rattle.dory_chunks.specs.Counts.{IsCount};
+ghost use Rattle.dory_chunks.specs.Target.{IsTarget, target_of, left_by, written, IsAlone};
 ghost use Rattle.dory_chunks.specs.Versions.{AreTags};
 
 use crate::Steps;
 use crate::chunk::{Chunk, entry_of};
 use crate::columns::{same_tags, xor_slot};
-use crate::marks::{Mark, empty_slot, marked, marks_with, own_slot, places, slot_for};
+use crate::marks::{Mark, slot_for};
 use crate::parts::{chunk_at, chunks_with, shared_chunks};
-use dory_base::{Change, Entry, Manifest, NoMemory, Shape, SlotTable, Tag};
+use dory_base::{Change, DocId, Entry, Manifest, NoMemory, Place, Shape, SlotTable, Tag};
 use std::alloc::Global;
 use std::marker::{Brand, Model};
 use std::sync::Arc;
@@ -25,13 +27,13 @@ use std::sync::ledger::{Blank, Ledger};
 pub struct Version {
     shape: Shape,
     number: u32,
-    marks: Vec<Option<Mark>>,
+    count: usize,
     chunks: Vec<Arc<Chunk>>,
     tags: Vec<Tag>,
 }
 
 impl Model for Version {
-    ghost use Rattle.std.specs.Prelude.{map, length};
+    ghost use Rattle.std.specs.Prelude.{map};
     ghost use Rattle.std.specs.Arc.{arc_value};
     ghost use Rattle.dory_base.specs.TableMeaning.{Kept};
     ghost use Rattle.dory_chunks.specs.Parts.{slots_in};
@@ -39,23 +41,27 @@ impl Model for Version {
 
     ghost Value = { Kept };
 
-    ghost view = { λ v. record { shape = v.shape; number = v.number; slots = slots_in (length v.marks.items) (map arc_value v.chunks.items) } };
+    ghost view = { λ v. record { shape = v.shape; number = v.number; slots = slots_in v.count (map arc_value v.chunks.items) } };
 
-    ghost invariant = { λ v. AreKept v.shape (slots_in (length v.marks.items) (map arc_value v.chunks.items)) v.marks.items v.tags.items × AreParts (width_of v.shape) (length v.marks.items) (map arc_value v.chunks.items) };
+    ghost invariant = { λ v. AreKept v.shape (slots_in v.count (map arc_value v.chunks.items)) v.tags.items × AreParts (width_of v.shape) v.count (map arc_value v.chunks.items) };
 }
 
-/// What an update leaves in the slot that it changes.
-fn left(alloc: Global, entry: &Entry) -> Result<Option<Arc<Entry>>, NoMemory>
-    ensures { IfOk result (λ slot. option_map arc_value slot ≡ left_by entry.now) }
+/// What an update leaves in the slot that it changes: itself, or nothing.
+fn left(entry: Arc<Entry>) -> Option<Arc<Entry>>
+    ensures { option_map arc_value result ≡ left_by (arc_value entry) }
 {
-    match entry.change {
-        Change::Post { .. } => {
-            let entry = entry.copy(alloc)?;
-            let entry = Arc::new(alloc, entry)?;
-            Ok(Some(entry))
-        }
-        Change::Remove => Ok(None),
+    match &entry.change {
+        Change::Post { .. } => Some(entry),
+        Change::Remove => None,
     }
+}
+
+/// How many slots there are once this one is among them.
+fn count_with(count: usize, n: usize) -> usize
+    requires { n < 4096 }
+    ensures { result ≡ (if nat_lt n count then count else n + 1) }
+{
+    if n < count { count } else { n + 1 }
 }
 
 impl Version {
@@ -63,20 +69,60 @@ impl Version {
     fn slot(&self, n: usize) -> Option<&Entry>
         ensures { option_copied result ≡ slice_index_or self.now.slots n None }
     {
-        if n >= self.marks.len() {
+        if n >= self.count {
             return None;
         }
         chunk_at(&self.chunks, n / 64).get(n % 64)
     }
 
+    /// The first slot of this document, or the first empty one where none is named.
+    fn first_slot(&self, doc: Option<DocId>) -> Option<usize>
+        ensures { result ≡ position (is_slot_of doc) self.now.slots }
+    {
+        for n in 0..(self.count + 63) / 64 {
+            if let Some(place) = chunk_at(&self.chunks, n).first(doc) {
+                let at = 64 * n + place;
+                return if at < self.count { Some(at) } else { None };
+            }
+        }
+        None
+    }
+
+    /// The mark of a slot.
+    fn mark(&self, n: usize) -> Option<Mark>
+        requires { n < length self.now.slots }
+        ensures { result ≡ mark_of (slice_index_or self.now.slots n None) }
+    {
+        chunk_at(&self.chunks, n / 64).mark(n % 64)
+    }
+
+    /// The live slots in order.
+    fn places(&self, alloc: Global) -> Result<Vec<Place>, NoMemory>
+        ensures value { IfOk result (λ all. all.items ≡ manifest_of self.now.slots) }
+        ensures kept { IsKept self.now }
+    {
+        let mut all = Vec::new(alloc);
+        for at in 0..self.count {
+            if let Some(mark) = self.mark(at) {
+                all.push(Place {
+                    slot: at as u16,
+                    doc: mark.doc,
+                    id: mark.id,
+                })?;
+            }
+        }
+        Ok(all)
+    }
+
     /// The slot that an update changes.
     fn target(&self, entry: &Entry) -> Option<usize>
+        ensures value { result ≡ target_of self.now.slots entry.now }
         ensures some { IfSome result (λ n. IsTarget self.now.slots entry.now n) }
         ensures none { IfNone result (step self.now.slots entry.now ≡ self.now.slots) }
     {
-        let own = own_slot(&self.marks, entry.doc);
+        let own = self.first_slot(Some(entry.doc));
         match entry.change {
-            Change::Post { .. } => slot_for(own, empty_slot(&self.marks), self.marks.len()),
+            Change::Post { .. } => slot_for(own, self.first_slot(None), self.count),
             Change::Remove => own,
         }
     }
@@ -93,7 +139,7 @@ impl Version {
         Ok(tags)
     }
 
-    /// The next version, with something else in a slot.
+    /// The next version, with something else in a slot. One chunk is made or copied.
     fn with_slot<L: Ledger>(
         &self,
         alloc: Global,
@@ -107,16 +153,15 @@ impl Version {
         requires posts { IsSlotOf self.now.shape (option_map arc_value slot) }
         requires alone { IsAlone self.now.slots n (option_map arc_value slot) }
         ensures value { IfOk result (λ v. v ≡ record { shape = self.now.shape; number = self.now.number + 1; slots = written self.now.slots n (option_map arc_value slot) }) }
-        ensures cost { steps.new ≤ steps.old + 1 }
+        ensures cost { IsCount result steps.old steps.new (Some n) }
     {
-        let marks = marks_with(alloc, &self.marks, n, marked(entry_of(&slot)))?;
         let tags = self.tags_with(alloc, n, entry_of(&slot))?;
         let width = (self.shape.columns() + 63) / 64;
         let chunks = chunks_with(alloc, &self.chunks, width, n, slot, steps)?;
         Ok(Version {
             shape: self.shape,
             number: self.number + 1,
-            marks,
+            count: count_with(self.count, n),
             chunks,
             tags,
         })
@@ -127,19 +172,37 @@ impl Version {
         requires room { self.now.number < 1048576 }
         ensures { IfOk result (λ v. v ≡ record { shape = self.now.shape; number = self.now.number + 1; slots = self.now.slots }) }
     {
-        let marks = self.marks.as_slice().to_vec(alloc)?;
         let chunks = shared_chunks(alloc, &self.chunks)?;
         let tags = same_tags(alloc, &self.tags)?;
         Ok(Version {
             shape: self.shape,
             number: self.number + 1,
-            marks,
+            count: self.count,
             chunks,
             tags,
         })
     }
 
-    /// The version after one more update, for which at most one chunk is made or copied.
+    /// The version after one more update, which it shares where a slot then has it. A chunk that is made or copied counts.
+    pub fn next_shared<L: Ledger>(
+        &self,
+        alloc: Global,
+        entry: Arc<Entry>,
+        steps: &mut Steps<L>,
+    ) -> Result<Version, NoMemory>
+        requires room { self.now.number < 1048576 }
+        requires change { IsChangeOf self.now.shape (arc_value entry).change }
+        ensures value { IfOk result (λ v. v ≡ next_of self.now (arc_value entry)) }
+        ensures stands { IfOk result (λ v. (entries : List Entry) → StandsFor self.now entries → StandsFor v (entries ++ arc_value entry ∷ [])) }
+        ensures cost { IsCount result steps.old steps.new (target_of self.now.slots (arc_value entry)) }
+    {
+        match self.target(&entry) {
+            None => self.with_same_slots(alloc),
+            Some(n) => self.with_slot(alloc, n, left(entry), steps),
+        }
+    }
+
+    /// The same after an update that isn't shared yet, which is copied.
     pub fn next_counted<L: Ledger>(
         &self,
         alloc: Global,
@@ -150,19 +213,10 @@ impl Version {
         requires change { IsChangeOf self.now.shape entry.now.change }
         ensures value { IfOk result (λ v. v ≡ next_of self.now entry.now) }
         ensures stands { IfOk result (λ v. (entries : List Entry) → StandsFor self.now entries → StandsFor v (entries ++ entry.now ∷ [])) }
-        ensures cost { steps.new ≤ steps.old + 1 }
+        ensures cost { IsCount result steps.old steps.new (target_of self.now.slots entry.now) }
     {
-        match self.target(entry) {
-            None => {
-                let next = self.with_same_slots(alloc)?;
-                Ok(next)
-            }
-            Some(n) => {
-                let slot = left(alloc, entry)?;
-                let next = self.with_slot(alloc, n, slot, steps)?;
-                Ok(next)
-            }
-        }
+        let shared = Arc::new(alloc, entry.copy(alloc)?)?;
+        self.next_shared(alloc, shared, steps)
     }
 }
 
@@ -192,7 +246,7 @@ impl SlotTable for Version {
         Ok(Version {
             shape,
             number: 0,
-            marks: Vec::new(alloc),
+            count: 0,
             chunks: Vec::new(alloc),
             tags,
         })
@@ -207,7 +261,7 @@ impl SlotTable for Version {
     }
 
     fn manifest(&self, alloc: Global) -> Result<Manifest, NoMemory> {
-        let places = places(alloc, &self.marks)?;
+        let places = self.places(alloc)?;
         Ok(Manifest::of(places))
     }
 
@@ -216,7 +270,7 @@ impl SlotTable for Version {
     }
 
     fn row(&self, slot: usize) -> Option<&[u64]> {
-        if slot >= self.marks.len() {
+        if slot >= self.count {
             return None;
         }
         chunk_at(&self.chunks, slot / 64).row(slot % 64)

@@ -1,6 +1,9 @@
-use Rattle.std.proofs.Common.{replicate, None, refl, sym, subst, arith}
+use Rattle.std.proofs.Common.{◌≡◌, map, replicate, None, refl, sym, ap, subst, arith}
+use Rattle.std.specs.Option.{option_map}
+use Rattle.std.specs.Arc.{arc_value}
 use Rattle.std.proofs.lemmas.List.{get_or-replicate}
 use Rattle.dory_base.specs.Table.{Slots}
+use Rattle.dory_chunks.specs.Marks.{mark_of}
 use Rattle.dory_chunks.specs.Parts.{IsChunk, ShowsSlot, row_in}
 use Rattle.dory_chunks.proofs.chunk.Chunk.empty.Goals as goal
 
@@ -13,4 +16,6 @@ invariant_of-result g c =
       block = omega (arith, c.in_ok-rows.rows.ok.0, c.in_ok-rows.ensures.len);
       shown = λ k near. subst (ShowsSlot (row_in c.args.width c.in_ok-rows.rows.items k)) (sym (get_or-replicate 64 k None None near)) tt;
     } in
-    subst (λ (s : Slots). IsChunk c.args.width s c.in_ok-rows.rows.items) (sym c.in_ok-entries.ensures) chunk
+    let marks : c.in_ok-marks.marks.items ≡ map mark_of slots = c.in_ok-marks.ensures in
+    let entries : map (option_map arc_value) c.in_ok-entries.entries.items ≡ slots = ap (map (option_map arc_value)) c.in_ok-entries.ensures in
+    subst (λ (s : Slots). IsChunk c.args.width s c.in_ok-rows.rows.items × (c.in_ok-marks.marks.items ≡ map mark_of s)) (sym entries) (chunk, marks)

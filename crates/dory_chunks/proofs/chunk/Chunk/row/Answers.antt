@@ -15,12 +15,12 @@ use Rattle.dory_chunks.proofs.chunk.Chunk.row.Goals as goal
 pub returns-in-Some-clause-live : goal.returns-in-Some-clause-live
 returns-in-Some-clause-live c =
     let slots : Slots = map (option_map arc_value) c.self.inside.entries.items in
-    let inside : c.args.place < length slots = omega (arith, c.self.invariant.full) in
+    let inside : c.args.place < length slots = omega (arith, c.self.invariant.0.full) in
     let e : Entry = arc_value c.in-Some.field-0 in
     let low : c.args.place < length c.self.inside.entries.items = omega (arith, length-map c.self.inside.entries.items (option_map (arc_value {X = Entry} {Z = Global}))) in
     let live : get_or slots c.args.place None ≡ Some e = image_at (option_map arc_value) c.self.inside.entries.items c.args.place c.index.result.now None low c.index.ensures ∙ ap (option_map arc_value) c.in-Some.is in
     let shown : ShowsSlot (slice_range c.self.inside.rows.items c.start_of-start.result (c.start_of-start.result + c.self.inside.width)) (get_or slots c.args.place None) =
-    subst (λ (s : ℕ). ShowsSlot (slice_range c.self.inside.rows.items s (s + c.self.inside.width)) (get_or slots c.args.place None)) (sym c.start_of-start.ensures.value) (c.self.invariant.shown c.args.place c.requires) in
+    subst (λ (s : ℕ). ShowsSlot (slice_range c.self.inside.rows.items s (s + c.self.inside.width)) (get_or slots c.args.place None)) (sym c.start_of-start.ensures.value) (c.self.invariant.0.shown c.args.place c.requires) in
     let words : Shows (slice_range c.self.inside.rows.items c.start_of-start.result (c.start_of-start.result + c.self.inside.width)) (row_of e.change) =
     subst (ShowsSlot (slice_range c.self.inside.rows.items c.start_of-start.result (c.start_of-start.result + c.self.inside.width))) live shown in
     (e, ap (λ (p : Part). get_or p.slots c.args.place None) (sym c.self.view_is) ∙ live, subst (λ (ws : List ℕ). Shows (slice_range ws c.start_of-start.result (c.start_of-start.result + c.self.inside.width)) (row_of e.change)) (sym c.deref.ensures.value) words)

@@ -15,7 +15,7 @@ use Rattle.dory_chunks.proofs.version.Version.tags_with.Goals as goal
 pub xor_slot-requires : goal.xor_slot-requires
 xor_slot-requires c =
     let parts : List Part = map arc_value c.self.inside.chunks.items in
-    let slots : Slots = slots_in (length c.self.inside.marks.items) parts in
+    let slots : Slots = slots_in (c.self.inside.count) parts in
     let columns : length c.in_ok-tags.tags.items ≡ 2 ^ c.self.inside.shape.depth = ap (length {A = ℕ}) (c.in_ok-tags.ensures ∙ c.deref.ensures.value) ∙ c.self.invariant.0.sums.columns in
     let slot : option_copied c.slot.result ≡ get_or slots c.args.n None = c.slot.ensures ∙ ap (λ (t : Kept). get_or t.slots c.args.n None) (sym c.self.view_is) in
     subst (λ (n : ℕ). HasTags n (option_copied c.slot.result)) (sym columns)
@@ -24,7 +24,7 @@ xor_slot-requires c =
 pub returns : goal.returns
 returns c =
     let parts : List Part = map arc_value c.self.inside.chunks.items in
-    let slots : Slots = slots_in (length c.self.inside.marks.items) parts in
+    let slots : Slots = slots_in (c.self.inside.count) parts in
     let x : Option Entry = option_copied c.args.slot in
     let n : ℕ = c.args.n in
     let tags : c.in_ok-tags.tags.items ≡ c.self.inside.tags.items = c.in_ok-tags.ensures ∙ c.deref.ensures.value in
