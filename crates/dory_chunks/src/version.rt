@@ -223,19 +223,31 @@ impl Version {
 fn next_blank<L: Ledger>(
     version: &Version,
     alloc: Global,
-    entry: &Entry,
+    entry: Arc<Entry>,
     blank: Blank,
 ) -> Result<Version, NoMemory>
     requires name { blank.name ≡ L.name }
     requires parts { blank.parts ≡ L.parts }
     requires some { 0 < blank.parts }
     requires room { version.now.number < 1048576 }
-    requires change { IsChangeOf version.now.shape entry.now.change }
-    ensures value { IfOk result (λ v. v ≡ next_of version.now entry.now) }
-    ensures stands { IfOk result (λ v. (entries : List Entry) → StandsFor version.now entries → StandsFor v (entries ++ entry.now ∷ [])) }
+    requires change { IsChangeOf version.now.shape (arc_value entry).change }
+    ensures value { IfOk result (λ v. v ≡ next_of version.now (arc_value entry)) }
+    ensures stands { IfOk result (λ v. (entries : List Entry) → StandsFor version.now entries → StandsFor v (entries ++ arc_value entry ∷ [])) }
 {
     let mut steps = Steps::<L>::new(blank);
-    version.next_counted(alloc, entry, &mut steps)
+    version.next_shared(alloc, entry, &mut steps)
+}
+
+impl Version {
+    /// The version after one more update, which it shares where a slot then has it. Nothing is counted.
+    pub fn next_uncounted(&self, alloc: Global, entry: Arc<Entry>) -> Result<Version, NoMemory>
+        requires room { self.now.number < 1048576 }
+        requires change { IsChangeOf self.now.shape (arc_value entry).change }
+        ensures value { IfOk result (λ v. v ≡ next_of self.now (arc_value entry)) }
+        ensures stands { IfOk result (λ v. (entries : List Entry) → StandsFor self.now entries → StandsFor v (entries ++ arc_value entry ∷ [])) }
+    {
+        next_blank::<Brand>(self, alloc, entry, Blank::new(1))
+    }
 }
 
 impl SlotTable for Version {
@@ -253,7 +265,8 @@ impl SlotTable for Version {
     }
 
     fn next_version(&self, alloc: Global, entry: &Entry) -> Result<Version, NoMemory> {
-        next_blank::<Brand>(self, alloc, entry, Blank::new(1))
+        let shared = Arc::new(alloc, entry.copy(alloc)?)?;
+        self.next_uncounted(alloc, shared)
     }
 
     fn number(&self) -> u32 {

@@ -1,5 +1,5 @@
 -- The versions that a folder retains, after one update more.
-use Rattle.std.proofs.Common.{◌≡◌, ℕ, ◌+◌, ◌-◌, ◌<◌, ◌≤◌, inl, inr, ltb, List, [], ◌∷◌, ◌++◌, length, take, take_all, get_or, sym, ap, ◌∙◌, subst, arith, length-append}
+use Rattle.std.proofs.Common.{◌≡◌, ℕ, zero, suc, refl, ◌+◌, ◌-◌, ◌<◌, ◌≤◌, inl, inr, ltb, List, [], ◌∷◌, ◌++◌, length, take, take_all, get_or, sym, ap, ◌∙◌, subst, arith, length-append}
 use Rattle.std.specs.List.{remove}
 use Rattle.std.proofs.lemmas.Bool.{cases_lt, cases_Bool, ltb-true, ltb-false}
 use Rattle.std.proofs.lemmas.List.{take-append-le}
@@ -11,6 +11,21 @@ use Rattle.dory_base.specs.declared.entry.Entry.{Entry}
 use Rattle.dory_base.specs.TableMeaning.{Kept, StandsFor}
 use Rattle.dory_wire.specs.Read.{oldest_of}
 use Rattle.dory_domain.specs.Versions.{IsVersion, AreVersions, newest_of}
+
+take_nothing : (n : ℕ) → ◌≡◌ {A = List Entry} (take n []) []
+take_nothing zero = refl
+take_nothing (suc n) = refl
+
+-- the table of no update is the one version of a history with none
+pub first_are : (shape : Dims) (retained : ℕ) (t : Kept) → 1 ≤ retained → t.shape ≡ shape → StandsFor t [] → AreVersions shape retained [] (t ∷ [])
+first_are shape retained t some same stands = record {
+  count = omega (arith, some);
+  each = first_each;
+}
+  where
+    first_each : (k : ℕ) (d : Kept) → k < 1 → IsVersion shape [] (oldest_of retained 0 + k) (get_or (t ∷ []) k d)
+    first_each zero d h = record { shape_is = same; stands = subst (StandsFor t) (sym (take_nothing (oldest_of retained 0 + 0))) stands }
+    first_each (suc k) d h = absurd (omega arith)
 
 -- an earlier version stays what it is
 version_stays : (shape : Dims) (history : List Entry) (e : Entry) (n : ℕ) (t : Kept) → n ≤ length history → IsVersion shape history n t → IsVersion shape (history ++ e ∷ []) n t
@@ -67,18 +82,18 @@ versions_next shape retained history e vs next some are same stands =
     ]
 
 -- the newest version is that of the whole history
-pub newest_is : (shape : Dims) (retained : ℕ) (history : List Entry) (vs : List Kept) (t : Kept) → 1 ≤ retained → AreVersions shape retained history vs → ((d : Kept) → t ≡ get_or vs (length vs - 1) d) → (t.shape ≡ shape) × StandsFor t history
+pub newest_is : (shape : Dims) (retained : ℕ) (history : List Entry) (vs : List Kept) (t : Kept) → 1 ≤ retained → AreVersions shape retained history vs → t ≡ get_or vs (length vs - 1) t → (t.shape ≡ shape) × StandsFor t history
 newest_is shape retained history vs t some are at =
     let low : length vs - 1 < length vs = omega (arith, are.count) in
-    let is : IsVersion shape history (oldest_of retained (length history) + (length vs - 1)) t = subst (IsVersion shape history (oldest_of retained (length history) + (length vs - 1))) (sym (at t)) (are.each (length vs - 1) t low) in
+    let is : IsVersion shape history (oldest_of retained (length history) + (length vs - 1)) t = subst (IsVersion shape history (oldest_of retained (length history) + (length vs - 1))) (sym at) (are.each (length vs - 1) t low) in
     let all : take (oldest_of retained (length history) + (length vs - 1)) history ≡ history = take_all (oldest_of retained (length history) + (length vs - 1)) history (omega (arith, are.count)) in
     (is.shape_is, subst (StandsFor t) all is.stands)
 
--- a version that is retained, counted from the newest
+-- a version that is retained, counted from the oldest
 pub version_is : (shape : Dims) (retained : ℕ) (history : List Entry) (vs : List Kept) (number : ℕ) (t : Kept) → AreVersions shape retained history vs → oldest_of retained (length history) ≤ number → number ≤ length history
-    → t ≡ get_or vs (length vs - 1 - (length history - number)) t → IsVersion shape history number t
+    → t ≡ get_or vs (number - oldest_of retained (length history)) t → IsVersion shape history number t
 version_is shape retained history vs number t are old new at =
-    let k : ℕ = length vs - 1 - (length history - number) in
+    let k : ℕ = number - oldest_of retained (length history) in
     let low : k < length vs = omega (arith, are.count) in
     let is : oldest_of retained (length history) + k ≡ number = omega (arith, are.count) in
     subst (λ (n : ℕ). IsVersion shape history n t) is (subst (IsVersion shape history (oldest_of retained (length history) + k)) (sym at) (are.each k t low))

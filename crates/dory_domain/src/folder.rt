@@ -10,7 +10,7 @@ ghost use Rattle.dory_base.specs.Step.Event.{Staged, Appended};
 ghost use Rattle.dory_base.specs.TableMeaning.{StandsFor};
 ghost use Rattle.dory_base.specs.declared.refusal.Refusal.TheVariants.{NoMemory as OutOfMemory};
 ghost use Rattle.dory_wire.specs.declared.message.What.TheVariants.{Refused};
-ghost use Rattle.dory_wire.specs.Read.{found_of, search_of, oldest_of, IsReadAs};
+ghost use Rattle.dory_wire.specs.Read.{found_of, search_of, IsReadAs};
 ghost use Rattle.dory_wire.specs.Spelling.{AreKeys, IsEntry, IsId, IsNumber, IsWant, IsWhat, IsFound};
 ghost use Rattle.dory_wire.specs.StepReply.{Steps};
 ghost use Rattle.dory_domain.specs.Held.{IsHeld, opened, in_state};
@@ -19,8 +19,8 @@ ghost use Rattle.dory_log.specs.Spared.{MayCommit};
 use crate::config::FolderConfig;
 use crate::probes::selectors;
 use crate::updates::Updates;
-use crate::versions::{first_version, keep, newest};
-use dory_base::{Entry, FolderId, Found, NoMemory, Refusal, Shape, Side, SlotTable, UpdateId};
+use crate::versions::LastVersions;
+use dory_base::{Entry, FolderId, Found, NoMemory, Refusal, Shape, Side, UpdateId};
 use dory_chunks::Version;
 use dory_dpf::Keys;
 use dory_kernel::RowKernel;
@@ -31,34 +31,32 @@ use std::alloc::Global;
 use std::marker::Model;
 use std::sync::Arc;
 
-/// A folder's shape, how many versions it retains, its log, its history, and the versions that it retains.
+/// A folder's log, its history, and the last versions, whose table shares its entries with the history.
 #[derive(Drop)]
 pub struct Folder {
     folder: FolderId,
-    shape: Shape,
-    retained: u32,
     log: FolderLog,
     history: Updates,
-    versions: Vec<Version>,
+    versions: LastVersions,
 }
 
 impl Model for Folder {
     ghost use Rattle.std.specs.Prelude.{◌≡◌};
     ghost use Rattle.dory_base.specs.Step.{State, log_of};
     ghost use Rattle.dory_domain.specs.Held.{Held, IsHeld};
-    ghost use Rattle.dory_domain.specs.Versions.{AreVersions};
+    ghost use Rattle.dory_domain.specs.Versions.{AreLast};
 
     ghost Value = { Held };
 
     ghost view = { λ f. record {
       number = f.folder.0;
-      state = record { role = f.log.log.role; shape = f.shape; retained = f.retained; history = f.history; staged = f.log.log.staged };
+      state = record { role = f.log.log.role; shape = f.versions.shape; retained = f.versions.retained; history = f.history; staged = f.log.log.staged };
     } };
 
     ghost invariant = { λ f. let held : Held = record {
       number = f.folder.0;
-      state = record { role = f.log.log.role; shape = f.shape; retained = f.retained; history = f.history; staged = f.log.log.staged };
-    } in IsHeld held × (f.log.log ≡ log_of held.state) × AreVersions f.shape f.retained f.history f.versions.items };
+      state = record { role = f.log.log.role; shape = f.versions.shape; retained = f.versions.retained; history = f.history; staged = f.log.log.staged };
+    } in IsHeld held × (f.log.log ≡ log_of held.state) × AreLast f.history f.versions };
 }
 
 /// Memory ran out.
@@ -79,11 +77,9 @@ impl Folder {
     {
         let _columns = config.shape.columns();
         let log = FolderLog::new(alloc, role, config.shape)?;
-        let versions = first_version(alloc, config.shape, config.retained)?;
+        let versions = LastVersions::new(alloc, config.shape, config.retained)?;
         Ok(Folder {
             folder: config.folder,
-            shape: config.shape,
-            retained: config.retained,
             log,
             history: Updates::new(alloc),
             versions,
@@ -141,52 +137,40 @@ impl Folder {
         ensures value { IsReadAs (search_of self.now.state.shape self.now.state.retained self.now.state.history version asked keys.now) result }
         ensures range { IsWhat result }
     {
-        let depth = self.shape.depth();
-        let probes = self.shape.probes();
+        let shape = self.versions.shape();
+        let depth = shape.depth();
+        let probes = shape.probes();
         if asked.depth() != depth || asked.probes() != probes {
             let code = Refusal::ShapeWrong { depth, probes };
             return What::Refused { code };
         }
-        let newest = self.length();
-        let oldest = (newest + 1).saturating_sub(self.retained);
-        if version < oldest || version > newest {
-            let code = Refusal::Unretained { oldest, newest };
-            return What::Refused { code };
-        }
-        match self.found(alloc, version, keys, kernel) {
-            Ok(found) => What::Found { found },
-            Err(NoMemory) => no_memory(),
+        match self.versions.get(version) {
+            Ok(table) => match self.found(alloc, table, keys, kernel) {
+                Ok(found) => What::Found { found },
+                Err(NoMemory) => no_memory(),
+            },
+            Err(code) => What::Refused { code },
         }
     }
 
-    /// What a version that is retained holds, with a sum for each key.
+    /// What a version of it holds, with a sum for each key.
     fn found(
         &self,
         alloc: Global,
-        version: u32,
+        table: &Version,
         keys: &Keys,
         kernel: &RowKernel,
     ) -> Result<Found, NoMemory>
-        requires oldest { oldest_of self.now.state.retained (length self.now.state.history) ≤ version }
-        requires newest { version ≤ length self.now.state.history }
+        requires shape { table.now.shape ≡ self.now.state.shape }
+        requires newest { table.now.number ≤ length self.now.state.history }
+        requires stands { StandsFor table.now (version_of table.now.number self.now.state.history) }
         requires keys { AreKeys self.now.state.shape keys.now }
-        ensures value { IfOk result (λ f. f ≡ found_of self.now.state.history version keys.now) }
+        ensures value { IfOk result (λ f. f ≡ found_of self.now.state.history table.now.number keys.now) }
         ensures range { IfOk result IsFound }
     {
-        let selectors = selectors(alloc, self.shape, keys)?;
-        let found = scan(alloc, self.version(version), &selectors, kernel)?;
+        let selectors = selectors(alloc, self.versions.shape(), keys)?;
+        let found = scan(alloc, table, &selectors, kernel)?;
         Ok(found)
-    }
-
-    /// A version that is retained.
-    fn version(&self, number: u32) -> &Version
-        requires oldest { oldest_of self.now.state.retained (length self.now.state.history) ≤ number }
-        requires newest { number ≤ length self.now.state.history }
-        ensures stands { StandsFor result.now (version_of number self.now.state.history) }
-        ensures shape { result.now.shape ≡ self.now.state.shape }
-    {
-        let age = (self.length() - number) as usize;
-        &self.versions[self.versions.len() - 1 - age]
     }
 
     /// Which update has a number.
@@ -275,14 +259,14 @@ impl Folder {
         ensures unchanged { OnErr result (self.new ≡ self.old) }
     {
         let Some(staged) = self.log.staged(id) else {
-            return Err(NoMemory);
+            unreachable!()
         };
         let update = Arc::try_clone(staged)?;
-        let next = newest(&self.versions).next_version(alloc, &update)?;
-        self.versions.reserve(1)?;
+        let shared = Arc::try_clone(&update)?;
+        let next = self.versions.newest().next_uncounted(alloc, shared)?;
         self.log.reserve(alloc)?;
         self.history.push(update)?;
-        keep(&mut self.versions, next, self.retained);
+        self.versions.push(next);
         self.log.put_commit(number, id);
         Ok(())
     }

@@ -17,3 +17,4 @@ pub use domain_core::DomainCore;
 pub use folder::Folder;
 pub use folders::Folders;
 pub use setup::{Config, FolderList};
+pub use versions::LastVersions;

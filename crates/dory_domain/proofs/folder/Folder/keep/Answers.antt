@@ -12,7 +12,7 @@ use Rattle.dory_domain.proofs.folder.Folder.keep.Goals as goal
 pub invariant_of-self-2 : goal.invariant_of-self-2
 invariant_of-self-2 c =
     let parts =
-    parts_staged c.self.inside.folder.0 c.self.inside.shape c.self.inside.retained c.self.inside.history c.self.inside.log.log c.put_staged.new.self.log c.args.entry.now (arc_value c.in_ok-copy-2.copy) (c.self.invariant.0, c.self.invariant.1)
+    parts_staged c.self.inside.folder.0 c.self.inside.versions.shape c.self.inside.versions.retained c.self.inside.history c.self.inside.log.log c.put_staged.new.self.log c.args.entry.now (arc_value c.in_ok-copy-2.copy) (c.self.invariant.0, c.self.invariant.1)
     (ap (λ (s : Spared). s.log) c.put_staged.ensures ∙ ap (λ (l : Log). log_after l (Staged (arc_value c.in_ok-copy-2.copy))) c.in_ok-reserve.ensures.log)
     (search rules)
     (subst (λ (f : Held). look_stage (log_of f.state) c.args.entry.now ≡ Ok New) (sym c.self.view_is) c.requires.fresh)
