@@ -279,6 +279,25 @@ fn an_earlier_version_keeps_the_row_that_a_later_one_replaced(
     Ok(())
 }
 
+#[test]
+fn each_version_that_is_retained_is_found_with_its_own_row(
+    rt: HostRuntime,
+) -> Result<(), NoMemory> {
+    let alloc = rt.alloc();
+    let shape = Shape::new(8, 2).expect(&rt, "a shape in range");
+    let mut core = empty_core(alloc, Side::Follow, shape, 3)?;
+    for number in 1..5u32 {
+        let column = if number % 2 == 1 { 0 } else { 7 };
+        let entry = post_with(alloc, shape, number, 7, (column, 255))?;
+        commit(alloc, &mut core, number, entry);
+    }
+    for (version, want) in [(2, (false, true)), (3, (true, false)), (4, (false, true))] {
+        let cells = cells_at(alloc, &mut core, shape, version)?;
+        assert!(rt; cells == Some(want), "version {version}");
+    }
+    Ok(())
+}
+
 fn is_at(what: &What, want: u32) -> bool {
     match what {
         What::At { length } => *length == want,
