@@ -16,6 +16,7 @@ pub use answer::Answer;
 pub use fault::{CheckFault, VerifyError};
 pub use latest::check_latest;
 pub use law::{right_beside_an_honest_domain, verified};
+pub use reply::{Allowed, echoed, formed};
 pub use search::verify;
 pub use tags::check_tags;
 
