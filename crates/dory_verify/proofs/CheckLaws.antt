@@ -1,5 +1,5 @@
 -- What a pair of replies without a fault says.
-use Rattle.std.proofs.Common.{◌≡◌, ℕ, zero, suc, ◌≤◌, ◌+◌, Bool, true, false, cond, List, [], ◌∷◌, drop, length, Option, Some, None, Result, Ok, Err, ap, refl, ◌∙◌, subst, arith}
+use Rattle.std.proofs.Common.{◌≡◌, ℕ, zero, suc, ◌≤◌, ◌+◌, Bool, true, false, cond, List, [], ◌∷◌, drop, length, Result, Ok, Err, ap, refl, ◌∙◌, subst, arith}
 use Rattle.std.specs.Prelude.{nat_lt, ◌==◌, ◌&&◌, bit_xor}
 use Rattle.std.proofs.lemmas.Bool.Decides.{nat_tests}
 use Rattle.dory_base.specs.declared.ids.Side.{Side}

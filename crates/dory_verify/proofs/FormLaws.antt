@@ -46,7 +46,7 @@ form_is side kind frame r e allowed = framed_is side kind (message_in frame) r e
 pub echo_is : (side : Side) (ask : AskId) (what : What) → echo side ask (reply ask what) ≡ Ok tt
 echo_is side ask what =
     let same : same_ask ask ask ≡ true =
-        (λ i. (eq-eqb ask.member.0 ask.member.0 refl i && eq-eqb ask.serial ask.serial refl i) && eq-eqb ask.step ask.step refl i)
+    (λ i. (eq-eqb ask.member.0 ask.member.0 refl i && eq-eqb ask.serial ask.serial refl i) && eq-eqb ask.step ask.step refl i)
     in
     ap (λ (b : Bool). cond b (Ok tt) (Err (fault.Echo side ask ask))) same
 

@@ -1,5 +1,5 @@
 -- The first fault of replies that answer their asks: none of a pair of lengths or of two honest domains, and of a search the refusal.
-use Rattle.std.proofs.Common.{◌≡◌, ℕ, ◌+◌, ◌≤◌, ◌^◌, Bool, true, false, cond, List, [], ◌∷◌, length, map, Option, Some, None, Result, Ok, Err, ap, refl, sym, ◌∙◌, arith, le-ltb}
+use Rattle.std.proofs.Common.{◌≡◌, ℕ, ◌+◌, ◌≤◌, ◌^◌, Bool, true, cond, List, [], ◌∷◌, length, map, Some, Ok, Err, ap, refl, sym, ◌∙◌, arith, le-ltb}
 use Rattle.std.specs.Prelude.{◌==◌, ◌&&◌, bit_xor}
 use Rattle.std.specs.List.{AllByRecursion}
 use Rattle.std.proofs.lemmas.Bool.{eq-eqb}
