@@ -8,7 +8,7 @@ use Rattle.dory_base.specs.declared.refusal.Refusal.{Refusal}
 use Rattle.dory_base.specs.declared.refusal.Refusal.TheVariants.{Taken}
 use Rattle.dory_base.specs.Log.{same_id}
 use Rattle.dory_wire.specs.declared.message.What.{What}
-use Rattle.dory_wire.specs.declared.message.What.TheVariants.{At, Found as Finds_, Id, Staged, Committed, Refused}
+use Rattle.dory_wire.specs.declared.message.What.TheVariants.{Id, Staged, Committed, Refused}
 use Rattle.dory_verify.specs.declared.fault.CheckFault.{CheckFault}
 use Rattle.dory_verify.specs.declared.fault.CheckFault.TheVariants as check
 use Rattle.dory_verify.specs.declared.reply.Allowed.{Allowed}
