@@ -8,3 +8,4 @@ pub mod CheckLaws
 pub mod Tagged
 pub mod Beside
 pub mod Passing
+pub mod Honesty
