@@ -26,7 +26,7 @@ use Rattle.dory_state.specs.Spelling.{IsKeptState}
 use Rattle.dory_client.specs.Asked.{Exchanged}
 use Rattle.dory_client.proofs.Course.{Lengths, Failed}
 use Rattle.dory_client.specs.Complete.{TellsFolder, TellsSeen, Agree, IsDomainRefusal}
-use Rattle.dory_client.proofs.Replied.{longer, same_version, grown_told, replied_by}
+use Rattle.dory_client.proofs.Replied.{longer, same_version, grown_told, read_by}
 use Rattle.dory_verify.specs.Honest.{found_by, reply}
 use Rattle.dory_verify.proofs.Passing.{lengths_pass, lead_refused, follow_refused, both_honest}
 use Rattle.dory_client.proofs.Right.{found_same, is_search, one_shape}
@@ -47,7 +47,7 @@ ok_state state = Ok state
 length_told : (lead lead' : Heard) (state : KeptState) (step : ℕ) (frame : List ℕ) (x y : Told) → TellsFolder lead.folders state.folder.0 x → TellsFolder lead'.folders state.folder.0 y → state.seen ≤ length x.history → Exchanged lead lead' (step_request state step Latest) frame
     → (n : ℕ) × (reply_in frame ≡ Some (reply (ask_of state step) (At n))) × (state.seen ≤ n)
 length_told lead lead' state step frame x y told told' seen ask =
-    let r = replied_by lead.folders lead'.folders x y (step_request state step Latest) frame tt told told' ask.replies in
+    let r = read_by lead.folders lead'.folders x y (step_request state step Latest) frame tt told told' ask.replies in
     let what_is : r.what ≡ At (length r.history) = r.at.value in (
       length r.history,
       r.replied ∙ ap (λ (w : What). Some (reply (ask_of state step) w)) what_is,
@@ -188,8 +188,8 @@ failed_refused lead lead' follow follow' state seed word f a b kept agree sealed
     let x = grown_told lead.folders s.lead_between.folders state.folder.0 a.folder_before a.told_before s.first.asked_lead.grown in
     let y = grown_told follow.folders s.follow_between.folders state.folder.0 b.folder_before b.told_before s.first.asked_follow.grown in
     let n = lengths_told lead s.lead_between follow s.follow_between state (Ok s.lengths) a.folder_before x.0 b.folder_before y.0 a.told_before x.1 b.told_before y.1 a.seen b.seen s.first in
-    let r = replied_by s.lead_between.folders lead'.folders x.0 a.folder_now (searching state 2 version sought.lead) s.second.from_lead tt x.1 a.told_now s.second.asked_lead.replies in
-    let t = replied_by s.follow_between.folders follow'.folders y.0 b.folder_now (searching state 3 version sought.follow) s.second.from_follow tt y.1 b.told_now s.second.asked_follow.replies in
+    let r = read_by s.lead_between.folders lead'.folders x.0 a.folder_now (searching state 2 version sought.lead) s.second.from_lead tt x.1 a.told_now s.second.asked_lead.replies in
+    let t = read_by s.follow_between.folders follow'.folders y.0 b.folder_now (searching state 3 version sought.follow) s.second.from_follow tt y.1 b.told_now s.second.asked_follow.replies in
     only_refusals state seed word x.0.shape y.0.shape r.history t.history a.folder_now.history b.folder_now.history version s.second.from_lead s.second.from_follow r.what t.what f
     (record {
       kept = kept;

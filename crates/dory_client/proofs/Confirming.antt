@@ -1,7 +1,7 @@
 -- What comes from a told domain confirms what was asked, or is a refusal.
 use Rattle.std.proofs.Common.{◌≡◌, ℕ, ◌≤◌, Bool, true, cond, List, Option, None, Some, Result, Ok, Err, refl, ap, sym, ◌∙◌, subst, inl, inr, arith}
 use Rattle.std.specs.Prelude.{⊤, ◌==◌, ◌&&◌}
-use Rattle.std.proofs.lemmas.Bool.Decides.{nat_tests}
+use Rattle.std.proofs.lemmas.Bool.{eq-eqb}
 use Rattle.dory_base.specs.declared.ids.AskId.{AskId}
 use Rattle.dory_base.specs.declared.ids.Side.{Side}
 use Rattle.dory_base.specs.declared.ids.Side.TheVariants as side
@@ -16,20 +16,17 @@ use Rattle.dory_base.specs.Log.{Log, look_follow, look_order, look_stage, same_i
 use Rattle.dory_base.specs.Step.{State, log_of}
 use Rattle.dory_base.proofs.LogLaws.{follow_seen}
 use Rattle.dory_base.proofs.SameLaws.{same_id_refl}
-use Rattle.dory_wire.specs.declared.fault.WireFault.{WireFault}
-use Rattle.dory_wire.specs.declared.message.Reply.{Reply}
 use Rattle.dory_wire.specs.declared.message.Request.{Request}
 use Rattle.dory_wire.specs.declared.message.Want.{Want}
 use Rattle.dory_wire.specs.declared.message.Want.TheVariants as want
 use Rattle.dory_wire.specs.declared.message.What.{What}
 use Rattle.dory_wire.specs.declared.message.What.TheVariants.{Committed, Refused}
-use Rattle.dory_wire.specs.Frame.{message_in}
-use Rattle.dory_wire.specs.Reading.{if_read, reply_in, reply_of, reply_or_none}
+use Rattle.dory_wire.specs.Reading.{reply_in}
 use Rattle.dory_wire.specs.Spelling.{IsWant}
 use Rattle.dory_wire.specs.StepReply.{Steps, commit_answer, stage_answer, which_answer}
-use Rattle.dory_link.specs.Told.{IsReplyTo, Heard, IsFolderReply, Told}
-use Rattle.dory_verify.specs.declared.fault.CheckFault.TheVariants as check
-use Rattle.dory_verify.specs.Checks.{echo, same_ask}
+use Rattle.dory_link.specs.Told.{IsReplyTo, Heard, Told}
+use Rattle.dory_verify.specs.Checks.{echo, form, is_allowed}
+use Rattle.dory_verify.proofs.FormLaws.{bind_is, echo_is, form_is}
 use Rattle.dory_member.specs.declared.outcome.Fault.{Fault}
 use Rattle.dory_member.specs.declared.outcome.Fault.TheVariants as fault
 use Rattle.dory_member.specs.declared.outcome.Mark.{Mark}
@@ -39,52 +36,31 @@ use Rattle.dory_member.specs.declared.phase.UpdateStep.{UpdateStep}
 use Rattle.dory_member.specs.declared.phase.UpdateStep.TheVariants.{StageFollow, StageLead, OrderLead, FollowOn, WhichOther, FollowOther}
 use Rattle.dory_member.specs.declared.phase.Run.{Run}
 use Rattle.dory_member.specs.Course.{name, ask_request, single_of, to, want_of}
-use Rattle.dory_member.specs.Single.{◌>>=◌, checked, confirmed, form, formed, framed, is_answer, mark, refused, said, wanted}
+use Rattle.dory_member.specs.Single.{allowed, checked, confirmed, mark, refused, said, wanted}
 use Rattle.dory_base.specs.declared.entry.Entry.{Entry}
-use Rattle.dory_client.specs.Asked.{HasReply}
 use Rattle.dory_client.specs.Complete.{TellsFolder}
 use Rattle.dory_client.specs.Way.{ExchangedOver, Links}
 use Rattle.dory_client.proofs.Committed.{follower}
-use Rattle.dory_client.proofs.Replied.{grown_told}
+use Rattle.dory_client.proofs.Replied.{IsReplied, grown_told, replied_by}
 
 -- ---- a reply whose kind is allowed is heard as what it says
 
-read_is : (read : Result Reply WireFault) (r : Reply) → if_read read ≡ Some r → read ≡ Ok r
-read_is (Ok x) r e = cc
-read_is (Err x) r e = absurd (cc)
-
-framed_is : (s : Side) (ask : Single) (m : Option (List ℕ)) (r : Reply) → reply_or_none m ≡ Some r → is_answer ask r.what ≡ true → framed s ask m ≡ Ok r
-framed_is s ask None r e allowed = absurd (cc)
-framed_is s ask (Some message) r e allowed =
-    ap (formed s ask) (read_is (reply_of message) r e) ∙ ap (λ (b : Bool). cond b (Ok r) (Err (check.Form s 4))) allowed
-
-same_number : (n : ℕ) → (n == n) ≡ true
-same_number n = grind (arith, nat_tests)
-
-echo_is : (s : Side) (ask : AskId) (what : What) → echo s ask (record { ask = ask; what = what }) ≡ Ok tt
-echo_is s ask what =
-    let same : same_ask ask ask ≡ true = (λ i. (same_number ask.member.0 i && same_number ask.serial i) && same_number ask.step i) in
-    ap (λ (b : Bool). cond b (Ok tt) (Err (check.Echo s ask ask))) same
-
-bind_is : {A B : Type 0} (r : Result A Fault) (x : A) (f : A → Result B Fault) (z : Result B Fault) → r ≡ Ok x → f x ≡ z → (r >>= f) ≡ z
-bind_is r x f z e h = ap (λ v. v >>= f) e ∙ h
-
-heard_as : (s : Side) (ask : Single) (asked : AskId) (frame : List ℕ) (what : What) → reply_in frame ≡ Some (record { ask = asked; what = what }) → is_answer ask what ≡ true → confirmed s ask asked frame ≡ said s ask what
+heard_as : (s : Side) (ask : Single) (asked : AskId) (frame : List ℕ) (what : What) → reply_in frame ≡ Some (record { ask = asked; what = what }) → is_allowed (allowed ask) what ≡ true → confirmed s ask asked frame ≡ said s ask what
 unfolding confirmed
-heard_as s ask asked frame what e allowed =
-    bind_is (checked (form s ask frame)) (record { ask = asked; what = what }) _ _ (ap checked (framed_is s ask (message_in frame) (record { ask = asked; what = what }) e allowed))
+heard_as s ask asked frame what e kind =
+    bind_is (checked (form s (allowed ask) frame)) (record { ask = asked; what = what }) _ _ (ap checked (form_is s (allowed ask) frame (record { ask = asked; what = what }) e kind))
     (bind_is (checked (echo s asked (record { ask = asked; what = what }))) tt _ _ (ap checked (echo_is s asked what)) refl)
 
 -- ---- what a told domain says
 
 wanted_same : (s : Side) (m : Mark) → wanted s m m ≡ Ok m
 wanted_same s m =
-    let same : ((m.number == m.number) && same_id m.id m.id) ≡ true = (λ i. same_number m.number i && same_id_refl m.id i) in
+    let same : ((m.number == m.number) && same_id m.id m.id) ≡ true = (λ i. eq-eqb m.number m.number refl i && same_id_refl m.id i) in
     ap (λ (b : Bool). cond b (Ok m) (Err (fault.Unconfirmed s m m))) same
 
 -- it confirms what was asked, or refuses
 pub data Stated (s : Side) (ask : Single) (what : What) : Type 0 where
-  Confirms : (m : Mark) → is_answer ask what ≡ true → said s ask what ≡ Ok m → Stated s ask what
+  Confirms : (m : Mark) → is_allowed (allowed ask) what ≡ true → said s ask what ≡ Ok m → Stated s ask what
   Refuses : (code : Refusal) → what ≡ Refused code → Stated s ask what
 
 stages : (s : Side) (id : UpdateId) (r : Result StagePlan Refusal) → Stated s (single.Stage id) (stage_answer id r)
@@ -156,9 +132,7 @@ still side.Follow folder m z r frame t (same, ask) =
 pub record Replied (r : Request) (frame : List ℕ) : Type 0 where
   pub before : Told
   pub now : Told
-  pub what : What
-  pub replied : reply_in frame ≡ Some (record { ask = r.ask; what = what })
-  pub answers : IsReplyTo before now r.want what
+  pub reply : IsReplied before now r frame
   pub counted : IsCounted r.want
 
 counted_of : (w : Want) → IsWant w → IsCounted w
@@ -169,28 +143,23 @@ counted_of (want.Stage e) is = tt
 counted_of (want.Order id) is = tt
 counted_of (want.Follow number id) is = is.0.some
 
-by_folder : (x y : Option Told) (a b : Told) (r : Request) (frame : List ℕ) (what : What) → x ≡ Some a → y ≡ Some b → reply_in frame ≡ Some (record { ask = r.ask; what = what }) → IsFolderReply x y r.want what → IsWant r.want → Replied r frame
-by_folder x y a b r frame what is js replied by range = record {
-  before = a;
-  now = b;
-  what = what;
-  replied = replied;
-  answers = subst (λ (o : Option Told). IsFolderReply (Some a) o r.want what) js (subst (λ (o : Option Told). IsFolderReply o y r.want what) is by);
-  counted = counted_of r.want range;
-}
-
-replied_by : (before now : Option (ℕ → Option Told)) (x y : Told) (r : Request) (frame : List ℕ) → TellsFolder before r.folder.0 x → TellsFolder now r.folder.0 y → HasReply before now r frame → IsWant r.want → Replied r frame
-replied_by None now x y r frame told told' replies range = absurd told
-replied_by (Some before) None x y r frame told told' replies range = absurd replies
-replied_by (Some before) (Some now) x y r frame told told' (what, replied, by) range = by_folder (before r.folder.0) (now r.folder.0) x y r frame what told told' replied by range
-
 over_told : (s : Side) (m z : Links) (r : Request) (frame : List ℕ) → Tells r.folder.0 m → ExchangedOver s m z r frame → Replied r frame
 over_told side.Lead m z r frame t (ask, same) =
     let x = grown_told m.lead.folders z.lead.folders r.folder.0 t.lead t.by_lead ask.grown in
-    replied_by m.lead.folders z.lead.folders t.lead x.0 r frame t.by_lead x.1 ask.replies ask.in_range.want
+    record {
+      before = t.lead;
+      now = x.0;
+      reply = replied_by m.lead.folders z.lead.folders t.lead x.0 r frame t.by_lead x.1 ask.replies;
+      counted = counted_of r.want ask.in_range.want;
+    }
 over_told side.Follow m z r frame t (same, ask) =
     let x = grown_told m.follow.folders z.follow.folders r.folder.0 t.follow t.by_follow ask.grown in
-    replied_by m.follow.folders z.follow.folders t.follow x.0 r frame t.by_follow x.1 ask.replies ask.in_range.want
+    record {
+      before = t.follow;
+      now = x.0;
+      reply = replied_by m.follow.folders z.follow.folders t.follow x.0 r frame t.by_follow x.1 ask.replies;
+      counted = counted_of r.want ask.in_range.want;
+    }
 
 -- what came to a step of an update
 says_at : (s : Side) (e : Entry) (at : UpdateStep) (x y : Told) (what : What) → IsCounted (want_of e (single_of e.id at)) → IsReplyTo x y (want_of e (single_of e.id at)) what → Stated s (single_of e.id at) what
@@ -208,7 +177,7 @@ pub data CameAs (s : Side) (ask : Single) (r : Result Mark Fault) : Type 0 where
   ToMark : (m : Mark) → r ≡ Ok m → CameAs s ask r
   ToRefusal : (code : Refusal) → r ≡ Err (refused s ask code) → CameAs s ask r
 
-allowed_refusal : (ask : Single) (code : Refusal) → is_answer ask (Refused code) ≡ true
+allowed_refusal : (ask : Single) (code : Refusal) → is_allowed (allowed ask) (Refused code) ≡ true
 allowed_refusal (single.Which number) code = refl
 allowed_refusal (single.Stage id) code = refl
 allowed_refusal (single.Order id) code = refl
@@ -221,7 +190,7 @@ said_refusal s (single.Order id) code = refl
 said_refusal s (single.Follow number id) code = refl
 
 heard_by : (s : Side) (ask : Single) (asked : AskId) (frame : List ℕ) (what : What) → reply_in frame ≡ Some (record { ask = asked; what = what }) → Stated s ask what → CameAs s ask (confirmed s ask asked frame)
-heard_by s ask asked frame what replied (Confirms m allowed says) = ToMark m (heard_as s ask asked frame what replied allowed ∙ says)
+heard_by s ask asked frame what replied (Confirms m kind says) = ToMark m (heard_as s ask asked frame what replied kind ∙ says)
 heard_by s ask asked frame what replied (Refuses code is) =
     let came : reply_in frame ≡ Some (record { ask = asked; what = Refused code }) = replied ∙ ap (λ (w : What). Some (record { ask = asked; what = w })) is in
     ToRefusal code (heard_as s ask asked frame (Refused code) came (allowed_refusal ask code) ∙ said_refusal s ask code)
@@ -231,4 +200,4 @@ pub confirms : (s : Side) (run : Run) (e : Entry) (at : UpdateStep) (m z : Links
     → CameAs s (single_of e.id at) (confirmed s (single_of e.id at) (name run run.step) frame)
 confirms s run e at m z frame t over =
     let r = over_told s m z (ask_request run (to s (want_of e (single_of e.id at)))) frame t over in
-    heard_by s (single_of e.id at) (name run run.step) frame r.what r.replied (says_at s e at r.before r.now r.what r.counted r.answers)
+    heard_by s (single_of e.id at) (name run run.step) frame r.reply.what r.reply.replied (says_at s e at r.before r.now r.reply.what r.counted r.reply.answers)

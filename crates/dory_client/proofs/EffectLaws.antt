@@ -44,6 +44,7 @@ use Rattle.dory_client.proofs.Course.{Answered}
 use Rattle.dory_client.proofs.Right.{answered_fresh, right_follow, right_lead}
 use Rattle.dory_client.proofs.Searches.{CourseOf, course, start}
 use Rattle.dory_client.proofs.Updates.{AtEnd, Grow, grow_same, grow_twice, turned_grows, update_ended}
+use Rattle.dory_client.proofs.WayLaws.{no_frames}
 
 -- ---- what is kept at the end
 
@@ -272,13 +273,9 @@ measure_done k seed run a z seen is c = by c.outcome refl c.good
 
 -- ---- nothing asked
 
-pub no_frames : (run : Run) (o : Outcome) (frames : List (List ℕ)) (a z : Links) → run.phase ≡ Ended o → ExchangedInTurn run frames a z → frames ≡ []
-no_frames run o [] a z is went = refl
-no_frames run o (f ∷ frames) a z is (m, turned, more) = absurd (subst (λ (p : Phase). RunExchanged run (asks p) a m f) is turned)
-
 rest_done : (k : KeptState) (run : Run) (a z : Scene) (o : Outcome) → run.kept.seen ≡ k.seen → run.phase ≡ Ended o → CameWell run a z → IsDone k run a z
 rest_done k run a z o seen is c =
-    let none : c.frames ≡ [] = no_frames run o c.frames (scene_links a) (scene_links z) is c.went in
+    let none : c.frames ≡ [] = no_frames run c.frames (scene_links a) (scene_links z) (ap asks is) c.went in
     nothing_further k run a z (went_grows run c.frames (scene_links a) (scene_links z) c.went) c (ap (λ (fs : List (List ℕ)). (run_after run fs).kept.seen) none ∙ seen)
     (subst (λ (p : Phase). Confirms k.folder.0 p a z) (sym is) tt)
 

@@ -41,6 +41,7 @@ use Rattle.dory_client.proofs.Acting.{Acted, acted}
 use Rattle.dory_client.proofs.Beginnings.{IsBeginning, Kind, Updates, Searches, Measures, Rests, beginning}
 use Rattle.dory_client.proofs.Confirming.{Tells}
 use Rattle.dory_client.proofs.Finishes.{IsFine, lengths_fine, rest_fine, update_fine}
+use Rattle.dory_client.proofs.WayLaws.{stuck_at}
 
 -- ---- a command that is ready isn't refused
 
@@ -101,10 +102,6 @@ not_made k t i i' end ready (Rattle.dory_client.specs.Command.Refused f e unread
 not_made k t i i' end ready (Rattle.dory_client.specs.Command.NoText e has is) = by_input k t i i' e end has is
 not_made k t i i' end ready (Rattle.dory_client.specs.Command.NoRoom text has is) = fine_as t end ends.NoMemory is tt
 
-by_stuck : (t : Todo) (end : ClientEnd) (r : Run) (o : Option Ask) (m n : Links) → Interrupted r o m n end → Cause t end
-by_stuck t end r None m n s = absurd s
-by_stuck t end r (Some ask) m n s = ByLink ask.side s.1
-
 by_saying : (t : Todo) (end : ClientEnd) (text : List ℕ) (x y : Option (List ℕ)) → Prints text x y end → Cause t end
 by_saying t end text x y (Wrote w e) = fine_as t end ends.Done e tt
 by_saying t end text x y (WrotePart w e) = ByOutput e
@@ -112,7 +109,9 @@ by_saying t end text x y (Untold w e) = fine_as t end ends.NoMemory e tt
 
 by_going : (t : Todo) (r : Run) (a z : Scene) (end : ClientEnd) → ((frames : List (List ℕ)) (o : Outcome) → ExchangedBetween r frames a z → ended_of r frames ≡ Some o → IsFine o) → CommandEnds r a z end → Cause t end
 by_going t r a z end fine (FirstSaveFailed asked kept wrote e) = ByKeeper e
-by_going t r a z end fine (AskFailed broke kept wrote) = by_stuck t end (run_after r broke.frames) (asks (run_after r broke.frames).phase) broke.between (scene_links z) broke.stuck
+by_going t r a z end fine (AskFailed broke kept wrote) =
+    let link = stuck_at (run_after r broke.frames) (asks (run_after r broke.frames).phase) broke.between (scene_links z) end broke.stuck in
+    ByLink link.0 link.1
 by_going t r a z end fine (RanOut frames went kept wrote e) = fine_as t end ends.NoMemory e tt
 by_going t r a z end fine (CommandFailed frames f went ended kept wrote e) = fine_as t end (fault_end f) e (fine frames (Failed f) went ended)
 by_going t r a z end fine (LastSaveFailed frames o went ended keeps kept wrote e) = ByKeeper e

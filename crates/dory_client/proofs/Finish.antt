@@ -21,6 +21,7 @@ use Rattle.dory_client.specs.Kept.{KeepsIf, KeepsNow, KeepsOf, OldOrNew, quiet}
 use Rattle.dory_client.specs.Driven.{Driven, StandsAt}
 use Rattle.dory_client.specs.Scene.{IsUntouched, Scene}
 use Rattle.dory_client.specs.CommandEnds.{CommandEnds, CommandPrinted, CommandFailed, RanOut, LastSaveFailed, Closes, SaveDone, SaveFailed, OutcomePrints, CommandEndsFrom, IsBegun, NoRoom, NotBegun}
+use Rattle.dory_client.proofs.WayLaws.{no_frames}
 
 -- ---- what is kept, from one moment to the next
 
@@ -48,15 +49,11 @@ now_again (Some a) (Some b) (Some c) k l p q = q
 -- ---- a run that asks nothing, and one that keeps nothing new
 
 -- a run that doesn't save at first asks nothing
-silent : (p : Phase) → saves_first p ≡ false → asks p ≡ None
-silent (Updating e at) h = absurd (cc)
-silent (Measuring word lead) h = absurd (cc)
-silent (Searching q lead) h = absurd (cc)
-silent (Ended o) h = refl
-
-pub no_frames : (run : Run) (frames : List (List ℕ)) (a z : Links) → saves_first run.phase ≡ false → ExchangedInTurn run frames a z → frames ≡ []
-no_frames run [] a z h went = refl
-no_frames run (f ∷ frames) a z h (m, turned, more) = absurd (subst (λ (o : Option Ask). RunExchanged run o a m f) (silent run.phase h) turned)
+pub asks_none : (p : Phase) → saves_first p ≡ false → asks p ≡ None
+asks_none (Updating e at) h = absurd (cc)
+asks_none (Measuring word lead) h = absurd (cc)
+asks_none (Searching q lead) h = absurd (cc)
+asks_none (Ended o) h = refl
 
 same_last : (p : Phase) → saves_first p ≡ false → saves_last p ≡ false
 same_last (Updating e at) h = refl
@@ -109,7 +106,7 @@ keeps_last run frames l z a b c went first last = by (saves_first run.phase) ref
     by true e true i p q = now_again a b c run.kept (run_after run frames).kept p q
     by true e false i p q = subst (KeepsNow a c) (sym (kept_on run frames l z went i)) (now_stays a b c run.kept p q)
     by false e true i p q =
-        let none : frames ≡ [] = no_frames run frames l z e went in
+        let none : frames ≡ [] = no_frames run frames l z (asks_none run.phase e) went in
         let still : saves_last (run_after run frames).phase ≡ false = ap (λ (fs : List (List ℕ)). saves_last (run_after run fs).phase) none ∙ same_last run.phase e in
         absurd (cc)
     by false e false i p q = stays_twice a b c p q
@@ -123,7 +120,7 @@ keeps_either run frames l z a b c went saving first last = by (saves_first run.p
     by true e p (inl stays) = inl (now_stays a b c run.kept p stays)
     by true e p (inr now) = inr (now_again a b c run.kept (run_after run frames).kept p now)
     by false e p q =
-        let none : frames ≡ [] = no_frames run frames l z e went in
+        let none : frames ≡ [] = no_frames run frames l z (asks_none run.phase e) went in
         let still : saves_last (run_after run frames).phase ≡ false = ap (λ (fs : List (List ℕ)). saves_last (run_after run fs).phase) none ∙ same_last run.phase e in
         absurd (cc)
 

@@ -13,7 +13,8 @@ use Rattle.dory_base.specs.declared.refusal.Refusal.TheVariants as refusal
 use Rattle.dory_wire.specs.declared.message.Want.TheVariants.{Latest}
 use Rattle.dory_verify.specs.declared.fault.CheckFault.{CheckFault}
 use Rattle.dory_verify.specs.declared.fault.CheckFault.TheVariants as check
-use Rattle.dory_verify.specs.Checks.{lengths_of, same_id}
+use Rattle.dory_base.specs.Log.{same_id}
+use Rattle.dory_verify.specs.Checks.{lengths_of}
 use Rattle.dory_state.specs.declared.kept.KeptState.{KeptState}
 use Rattle.dory_member.specs.declared.outcome.Fault.{Fault}
 use Rattle.dory_member.specs.declared.outcome.Fault.TheVariants as fault
@@ -36,7 +37,7 @@ use Rattle.dory_client.specs.Way.{ExchangedOver, Links, RunExchanged, ExchangedI
 use Rattle.dory_client.proofs.Complete.{lengths_told}
 use Rattle.dory_client.proofs.Confirming.{CameAs, ToMark, ToRefusal, Tells, confirms, still}
 use Rattle.dory_client.proofs.Course.{Lengths}
-use Rattle.dory_client.proofs.EffectLaws.{no_frames}
+use Rattle.dory_client.proofs.WayLaws.{no_frames}
 use Rattle.dory_client.proofs.Replied.{grown_told}
 use Rattle.dory_client.proofs.Searches.{both_asked}
 use Rattle.dory_client.proofs.Updates.{Leads, kept_folder, leads}
@@ -171,7 +172,7 @@ lengths_fine k seed (f ∷ g ∷ frames) a z o t l l' (m, (ask, same), (n, (othe
 -- what asks nothing ends as it began
 pub rest_fine : (run : Run) (x : Outcome) (frames : List (List ℕ)) (a z : Links) (o : Outcome) → run.phase ≡ Ended x → IsFine x → ExchangedInTurn run frames a z → ended_of run frames ≡ Some o → IsFine o
 rest_fine run x frames a z o is fine went ends =
-    let none : frames ≡ [] = no_frames run x frames a z is went in
+    let none : frames ≡ [] = no_frames run frames a z (ap asks is) went in
     let now : ended_of run frames ≡ Some x = ap (λ (fs : List (List ℕ)). ended_of run fs) none ∙ ap outcome_at is in
     let same : x ≡ o = cc in
     subst IsFine same fine

@@ -31,9 +31,10 @@ use Rattle.dory_client.specs.Start.{command_of, start_of}
 use Rattle.dory_client.specs.Way.{Links, Interrupted, RunExchanged, ExchangedInTurn}
 use Rattle.dory_client.proofs.Acting.{BeginsOrNot, begins_or_not, undone_as, undone_keeper, undone_memory}
 use Rattle.dory_client.proofs.Beginnings.{IsBeginning, Kind, Updates, Searches, Measures, Rests, beginning}
-use Rattle.dory_client.proofs.EffectLaws.{IsMeasured, kept_last, le_greater, measured, no_frames}
+use Rattle.dory_client.proofs.EffectLaws.{IsMeasured, kept_last, le_greater, measured}
 use Rattle.dory_client.proofs.Done.{not_fault, not_stuck}
-use Rattle.dory_client.proofs.Finish.{no_frames as silent_frames}
+use Rattle.dory_client.proofs.Finish.{asks_none}
+use Rattle.dory_client.proofs.WayLaws.{no_frames}
 use Rattle.dory_client.proofs.Right.{answered_fresh}
 use Rattle.dory_client.proofs.Searches.{CourseOf, course}
 use Rattle.dory_client.proofs.Updates.{AtEnd, update_ended}
@@ -95,7 +96,7 @@ rises k seed c r frames o a z begins went ended good = by b.kind
         (subst (λ (x : Run). ExchangedInTurn x frames (scene_links a) (scene_links z)) is went) (subst (λ (x : Run). ended_of x frames ≡ Some o) is ended) in
         as_seen (from_kept (measured_rises r.kept o so good)) (ap (λ (x : Run). outcome_at x.phase) is)
     by (Rests x good' is) =
-        let none : frames ≡ [] = no_frames r x frames (scene_links a) (scene_links z) is went in
+        let none : frames ≡ [] = no_frames r frames (scene_links a) (scene_links z) (ap asks is) went in
         let same : k.seen ≡ (run_after r frames).kept.seen = sym (ap (λ (fs : List (List ℕ)). (run_after r fs).kept.seen) none ∙ b.seen) in
         subst (λ (n : ℕ). k.seen ≤ n) same (omega arith)
 
@@ -104,7 +105,7 @@ rises k seed c r frames o a z begins went ended good = by b.kind
 -- nothing was asked by a run that saves nothing first
 same_links : (r : Run) (frames : List (List ℕ)) (a z : Scene) → saves_first r.phase ≡ false → ExchangedBetween r frames a z → AskedNothing a z
 same_links r frames a z silent went =
-    let none : frames ≡ [] = silent_frames r frames (scene_links a) (scene_links z) silent went in
+    let none : frames ≡ [] = no_frames r frames (scene_links a) (scene_links z) (asks_none r.phase silent) went in
     let same : scene_links z ≡ scene_links a = subst (λ (fs : List (List ℕ)). ExchangedInTurn r fs (scene_links a) (scene_links z)) none went in
     (ap (λ (l : Links). l.lead) same, ap (λ (l : Links). l.follow) same)
 
@@ -134,7 +135,7 @@ new_saved r (Updating e at) frames a z o is went ended new = refl
 new_saved r (Measuring word lead) frames a z o is went ended new = refl
 new_saved r (Searching q lead) frames a z o is went ended new = refl
 new_saved r (Ended x) frames a z o is went ended new =
-    let none : frames ≡ [] = no_frames r x frames (scene_links a) (scene_links z) is went in
+    let none : frames ≡ [] = no_frames r frames (scene_links a) (scene_links z) (ap asks is) went in
     let now : ended_of r frames ≡ Some x = ap (λ (fs : List (List ℕ)). ended_of r fs) none ∙ ap outcome_at is in
     let same : x ≡ o = cc in
     ap keeps same ∙ new

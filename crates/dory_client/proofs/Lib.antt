@@ -3,6 +3,7 @@ pub mod Reading
 pub mod Asks
 pub mod Commands
 pub mod Drives
+pub mod WayLaws
 pub mod Finish
 pub mod Calls
 pub mod Course

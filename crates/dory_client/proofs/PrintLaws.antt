@@ -30,6 +30,7 @@ use Rattle.dory_client.specs.Scene.{Input, Scene}
 use Rattle.dory_client.specs.Start.{start_of}
 use Rattle.dory_client.specs.Way.{Links, Interrupted}
 use Rattle.dory_client.specs.CallPrints.{CallPrints}
+use Rattle.dory_client.proofs.WayLaws.{stuck_at}
 
 -- ---- ends at which nothing is written
 
@@ -58,10 +59,6 @@ at_input x y input.Fault w = w
 at_input x y input.Long w = w
 at_input x y input.NoMemory w = w
 
-by_stuck : (x y : Option (List ℕ)) (r : Run) (o : Option Ask) (m n : Links) (end : ClientEnd) → Interrupted r o m n end → Stays x y → CallPrints end x y
-by_stuck x y r None m n end s w = absurd s
-by_stuck x y r (Some ask) m n end s w = by_link x y ask.side end s.1 w
-
 -- ---- a command, and a first state
 
 by_saying : (x y : Option (List ℕ)) (text : List ℕ) (end : ClientEnd) → Prints (text ++ 10 ∷ []) x y end → CallPrints end x y
@@ -71,7 +68,9 @@ by_saying x y text end (Untold w e) = by x y end ends.NoMemory e w
 
 by_going : (r : Run) (a z : Scene) (end : ClientEnd) → CommandEnds r a z end → CallPrints end a.written z.written
 by_going r a z end (FirstSaveFailed asked kept w e) = by_keeper a.written z.written end e w
-by_going r a z end (AskFailed broke kept w) = by_stuck a.written z.written (run_after r broke.frames) (asks (run_after r broke.frames).phase) broke.between (scene_links z) end broke.stuck w
+by_going r a z end (AskFailed broke kept w) =
+    let link = stuck_at (run_after r broke.frames) (asks (run_after r broke.frames).phase) broke.between (scene_links z) end broke.stuck in
+    by_link a.written z.written link.0 end link.1 w
 by_going r a z end (RanOut frames went kept w e) = by a.written z.written end ends.NoMemory e w
 by_going r a z end (CommandFailed frames f went ended kept w e) = by a.written z.written end (fault_end f) e (at_fault a.written z.written f w)
 by_going r a z end (LastSaveFailed frames o went ended new kept w e) = by_keeper a.written z.written end e w

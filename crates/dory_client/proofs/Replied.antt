@@ -13,8 +13,14 @@ use Rattle.dory_link.specs.Told.{Told, IsReadAt, IsReplyTo, IsFolderReply, Grown
 use Rattle.dory_client.specs.Asked.{HasReply}
 use Rattle.dory_client.specs.Complete.{TellsFolder}
 
--- a frame answers a request by one of the histories between these two
+-- a frame answers a request between these two tellings of the folder
 pub record IsReplied (before now : Told) (request : Request) (frame : List ℕ) : Type 0 where
+  pub what : What
+  pub replied : reply_in frame ≡ Some (record { ask = request.ask; what = what })
+  pub answers : IsReplyTo before now request.want what
+
+-- a frame answers a request by one of the histories between these two
+pub record IsReadBy (before now : Told) (request : Request) (frame : List ℕ) : Type 0 where
   pub what : What
   pub history : List Entry
   pub replied : reply_in frame ≡ Some (record { ask = request.ask; what = what })
@@ -55,16 +61,23 @@ read_at x y (Stage e) what reads a = absurd reads
 read_at x y (Order id) what reads a = absurd reads
 read_at x y (Follow number id) what reads a = absurd reads
 
-by_folder : (before now : Option Told) (x y : Told) (request : Request) (what : What) (frame : List ℕ) → IsReading request.want → before ≡ Some x → now ≡ Some y → reply_in frame ≡ Some (record { ask = request.ask; what = what }) → IsFolderReply before now request.want what → IsReplied x y request frame
-by_folder before now x y request what frame reads e i replied answer =
-    let by : IsFolderReply (Some x) (Some y) request.want what =
-    subst (λ (o : Option Told). IsFolderReply o (Some y) request.want what) e (subst (λ (o : Option Told). IsFolderReply before o request.want what) i answer) in
-    let at = read_at x y request.want what reads by in
-    record { what = what; history = at.0; replied = replied; at = at.1 }
+by_folder : (before now : Option Told) (x y : Told) (request : Request) (what : What) (frame : List ℕ) → before ≡ Some x → now ≡ Some y → reply_in frame ≡ Some (record { ask = request.ask; what = what }) → IsFolderReply before now request.want what → IsReplied x y request frame
+by_folder before now x y request what frame e i replied answer = record {
+  what = what;
+  replied = replied;
+  answers = subst (λ (o : Option Told). IsFolderReply o (Some y) request.want what) e (subst (λ (o : Option Told). IsFolderReply before o request.want what) i answer);
+}
 
 -- what came over a link that tells the folder
-pub replied_by : (before now : Option (ℕ → Option Told)) (x y : Told) (request : Request) (frame : List ℕ) → IsReading request.want → TellsFolder before request.folder.0 x → TellsFolder now request.folder.0 y → HasReply before now request frame → IsReplied x y request frame
-replied_by None now x y request frame reads told told' replies = absurd told
-replied_by (Some before) None x y request frame reads told told' replies = absurd replies
-replied_by (Some before) (Some now) x y request frame reads told told' (what, replied, by) =
-    by_folder (before request.folder.0) (now request.folder.0) x y request what frame reads told told' replied by
+pub replied_by : (before now : Option (ℕ → Option Told)) (x y : Told) (request : Request) (frame : List ℕ) → TellsFolder before request.folder.0 x → TellsFolder now request.folder.0 y → HasReply before now request frame → IsReplied x y request frame
+replied_by None now x y request frame told told' replies = absurd told
+replied_by (Some before) None x y request frame told told' replies = absurd replies
+replied_by (Some before) (Some now) x y request frame told told' (what, replied, by) =
+    by_folder (before request.folder.0) (now request.folder.0) x y request what frame told told' replied by
+
+-- what came to a request that reads
+pub read_by : (before now : Option (ℕ → Option Told)) (x y : Told) (request : Request) (frame : List ℕ) → IsReading request.want → TellsFolder before request.folder.0 x → TellsFolder now request.folder.0 y → HasReply before now request frame → IsReadBy x y request frame
+read_by before now x y request frame reads told told' replies =
+    let r = replied_by before now x y request frame told told' replies in
+    let at = read_at x y request.want r.what reads r.answers in
+    record { what = r.what; history = at.0; replied = r.replied; at = at.1 }

@@ -31,6 +31,7 @@ use Rattle.dory_client.proofs.Acting.{Acted, acted}
 use Rattle.dory_client.proofs.Beginnings.{search_begins}
 use Rattle.dory_client.proofs.Complete.{failed_refused}
 use Rattle.dory_client.proofs.Searches.{CourseOf, course, start}
+use Rattle.dory_client.proofs.WayLaws.{stuck_at}
 
 -- the ends of a search, and their causes
 pub data SearchEnd (k : KeptState) (seed word : List ℕ) (a z : Scene) (end : ClientEnd) : Type 0 where
@@ -41,10 +42,6 @@ pub data SearchEnd (k : KeptState) (seed word : List ℕ) (a z : Scene) (end : C
   WellDone : end ≡ ends.Done → SearchEnd k seed word a z end
   BySerial : is_last_serial k ≡ true → end ≡ ends.SerialEnd → SearchEnd k seed word a z end
   ByCheck : (f : CheckFault) → end ≡ ends.Check f → CourseOf k seed word (scene_links a) (scene_links z) (Failed (fault.Check f)) → SearchEnd k seed word a z end
-
-by_stuck : (k : KeptState) (seed word : List ℕ) (a z : Scene) (end : ClientEnd) (r : Run) (o : Option Ask) (m n : Links) → Interrupted r o m n end → SearchEnd k seed word a z end
-by_stuck k seed word a z end r None m n s = absurd s
-by_stuck k seed word a z end r (Some ask) m n s = ByLink ask.side s.1
 
 by_fault : (k : KeptState) (seed word : List ℕ) (a z : Scene) (f : Fault) → CourseOf k seed word (scene_links a) (scene_links z) (Failed f) → SearchEnd k seed word a z (fault_end f)
 by_fault k seed word a z (fault.Check f) so = ByCheck f refl so
@@ -62,7 +59,9 @@ by_saying k seed word a z end text x y (Untold w e) = ByMemory e
 
 by_going : (k : KeptState) (seed word : List ℕ) (a z : Scene) (end : ClientEnd) (r : Run) → r ≡ start k seed k.used word → CommandEnds r a z end → SearchEnd k seed word a z end
 by_going k seed word a z end r is (FirstSaveFailed asked kept wrote e) = ByKeeper e
-by_going k seed word a z end r is (AskFailed broke kept wrote) = by_stuck k seed word a z end (run_after r broke.frames) (asks (run_after r broke.frames).phase) broke.between (scene_links z) broke.stuck
+by_going k seed word a z end r is (AskFailed broke kept wrote) =
+    let link = stuck_at (run_after r broke.frames) (asks (run_after r broke.frames).phase) broke.between (scene_links z) end broke.stuck in
+    ByLink link.0 link.1
 by_going k seed word a z end r is (RanOut frames went kept wrote e) = ByMemory e
 by_going k seed word a z end r is (CommandFailed frames f went ended kept wrote e) =
     subst (λ (x : ClientEnd). SearchEnd k seed word a z x) (sym e) (by_fault k seed word a z f

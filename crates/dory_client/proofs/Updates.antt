@@ -21,7 +21,7 @@ use Rattle.dory_wire.specs.declared.message.What.TheVariants.{Committed}
 use Rattle.dory_link.specs.Told.{Heard, Told, Grown, Grows}
 use Rattle.dory_verify.specs.declared.fault.CheckFault.{CheckFault}
 use Rattle.dory_verify.specs.declared.fault.CheckFault.TheVariants as check
-use Rattle.dory_verify.specs.Checks.{same_id}
+use Rattle.dory_base.specs.Log.{same_id}
 use Rattle.dory_state.specs.declared.kept.KeptState.{KeptState}
 use Rattle.dory_member.specs.declared.outcome.Fault.{Fault}
 use Rattle.dory_member.specs.declared.outcome.Fault.TheVariants as fault

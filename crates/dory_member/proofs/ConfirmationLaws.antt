@@ -1,76 +1,41 @@
 -- What a reply that passes its checks says, for the proofs of callers.
-use Rattle.std.proofs.Common.{◌≡◌, ℕ, Bool, true, false, cond, List, Option, Some, None, Result, Ok, Err, inl, inr, refl, ap, sym, ◌∙◌}
+use Rattle.std.proofs.Common.{◌≡◌, ℕ, Bool, true, false, cond, List, Result, Ok, Err, inl, inr, refl, ap, sym, ◌∙◌}
 use Rattle.std.specs.Prelude.{◌⊎◌, ◌==◌, ◌&&◌}
 use Rattle.std.proofs.lemmas.Bool.{eqb-true, and_parts}
 use Rattle.dory_base.specs.declared.ids.Side.{Side}
 use Rattle.dory_base.specs.declared.ids.AskId.{AskId}
 use Rattle.dory_base.specs.declared.ids.UpdateId.{UpdateId}
+use Rattle.dory_base.specs.Log.{same_id}
+use Rattle.dory_base.proofs.SameLaws.{same_id-true}
 use Rattle.dory_wire.specs.declared.message.What.{What}
 use Rattle.dory_wire.specs.declared.message.What.TheVariants.{At, Found as Finds, Id, Staged, Committed, Refused}
-use Rattle.dory_wire.specs.declared.message.Reply.{Reply}
-use Rattle.dory_wire.specs.declared.fault.WireFault.{WireFault}
-use Rattle.dory_wire.specs.Frame.{message_in}
-use Rattle.dory_wire.specs.Reading.{reply_of, reply_or_none, if_read}
 use Rattle.dory_verify.specs.declared.fault.CheckFault.{CheckFault}
-use Rattle.dory_verify.specs.declared.fault.CheckFault.TheVariants as check
-use Rattle.dory_verify.specs.Checks.{echo, same_ask, same_id}
+use Rattle.dory_verify.specs.Checks.{form, echo}
+use Rattle.dory_verify.proofs.FormLaws.{bind_ok, form_came, echo_ok}
 use Rattle.dory_member.specs.declared.outcome.Mark.{Mark}
 use Rattle.dory_member.specs.declared.outcome.Fault.{Fault}
 use Rattle.dory_member.specs.declared.outcome.Fault.TheVariants as fault
 use Rattle.dory_member.specs.declared.phase.Single.{Single}
 use Rattle.dory_member.specs.declared.phase.Single.TheVariants.{Which, Stage, Order, Follow}
 use Rattle.dory_member.specs.Confirmation.{Confirmation}
-use Rattle.dory_member.specs.Single.{◌>>=◌, checked, confirmed, form, formed, framed, is_answer, mark, said, wanted}
-
-bind_ok : {A B : Type 0} (r : Result A Fault) (f : A → Result B Fault) (y : B) → (r >>= f) ≡ Ok y → (x : A) × (r ≡ Ok x) × (f x ≡ Ok y)
-bind_ok (Ok x) f y e = (x, refl, e)
-bind_ok (Err d) f y e = absurd (cc)
+use Rattle.dory_member.specs.Single.{allowed, checked, confirmed, mark, said, wanted}
 
 checked_ok : {A : Type 0} (r : Result A CheckFault) (x : A) → checked r ≡ Ok x → r ≡ Ok x
 checked_ok (Ok y) x e = cc
 checked_ok (Err d) x e = absurd (cc)
 
-abbrev ok_read : Reply → Result Reply WireFault
-ok_read r = Ok r
-
-read_ok : (side : Side) (ask : Single) (read : Result Reply WireFault) (r : Reply) → formed side ask read ≡ Ok r → read ≡ Ok r
-read_ok side ask (Err e) r is = absurd (cc)
-read_ok side ask (Ok reply) r is = by (is_answer ask reply.what) is
-  where
-    by : (b : Bool) → cond b (Ok reply) (Err (check.Form side 4)) ≡ Ok r → ok_read reply ≡ ok_read r
-    by true e = cc
-    by false e = absurd (cc)
-
-came_ok : (side : Side) (ask : Single) (m : Option (List ℕ)) (r : Reply) → framed side ask m ≡ Ok r → reply_or_none m ≡ Some r
-came_ok side ask None r is = absurd (cc)
-came_ok side ask (Some message) r is = ap if_read (read_ok side ask (reply_of message) r is)
-
-echo_ok : (side : Side) (asked : AskId) (r : Reply) (u : Unit {0}) → echo side asked r ≡ Ok u → same_ask r.ask asked ≡ true
-echo_ok side asked r u is = by (same_ask r.ask asked) is
-  where
-    by : (b : Bool) → cond b (Ok tt) (Err (check.Echo side asked r.ask)) ≡ Ok u → b ≡ true
-    by true e = refl
-    by false e = absurd (cc)
-
 -- a frame that confirms a mark is such a reply
 pub heard : (side : Side) (ask : Single) (asked : AskId) (frame : List ℕ) (m : Mark) → confirmed side ask asked frame ≡ Ok m → Confirmation side ask asked frame m
 unfolding confirmed
 heard side ask asked frame m e =
-    let f = bind_ok (checked (form side ask frame)) _ m e in
+    let f = bind_ok (checked (form side (allowed ask) frame)) _ m e in
     let g = bind_ok (checked (echo side asked f.0)) _ m f.2 in
     record {
       reply = f.0;
-      came = came_ok side ask (message_in frame) f.0 (checked_ok (form side ask frame) f.0 f.1);
+      came = form_came side (allowed ask) frame f.0 (checked_ok (form side (allowed ask) frame) f.0 f.1);
       echoes = echo_ok side asked f.0 g.0 (checked_ok (echo side asked f.0) g.0 g.1);
       says = g.2;
     }
-
-same_id-true : (a b : UpdateId) → same_id a b ≡ true → a ≡ b
-same_id-true a b e =
-    let p = and_parts (a.member.0 == b.member.0) (a.serial == b.serial) e in
-    let member = eqb-true a.member.0 b.member.0 p.0 in
-    let serial = eqb-true a.serial b.serial p.1 in
-    λ i. record { member = record { 0 = member i }; serial = serial i }
 
 abbrev ok_mark : Mark → Result Mark Fault
 ok_mark m = Ok m

@@ -1,68 +1,36 @@
 -- The checks of a reply that is checked by itself, in their order: Form, Echo, Refused, and the number and the id that
 -- are wanted.
-use Rattle.std.specs.Prelude.{ℕ, ◌==◌, ◌&&◌, not, Bool, true, false, List, Option, Some, None, Result, Ok, Err, if◌then◌else◌}
+use Rattle.std.specs.Prelude.{ℕ, ◌==◌, ◌&&◌, not, List, Result, Ok, Err, if◌then◌else◌}
 use Rattle.dory_base.specs.declared.ids.Side.{Side}
 use Rattle.dory_base.specs.declared.ids.AskId.{AskId}
 use Rattle.dory_base.specs.declared.ids.UpdateId.{UpdateId}
 use Rattle.dory_base.specs.declared.refusal.Refusal.{Refusal}
 use Rattle.dory_base.specs.declared.refusal.Refusal.TheVariants.{Taken}
+use Rattle.dory_base.specs.Log.{same_id}
 use Rattle.dory_wire.specs.declared.message.What.{What}
-use Rattle.dory_wire.specs.declared.message.What.TheVariants.{At, Found as Finds_, Id, Staged, Committed, Refused}
-use Rattle.dory_wire.specs.declared.message.Reply.{Reply}
-use Rattle.dory_wire.specs.declared.fault.WireFault.{WireFault}
-use Rattle.dory_wire.specs.Frame.{message_in}
-use Rattle.dory_wire.specs.Reading.{reply_of}
+use Rattle.dory_wire.specs.declared.message.What.TheVariants.{Id, Staged, Committed, Refused}
 use Rattle.dory_verify.specs.declared.fault.CheckFault.{CheckFault}
 use Rattle.dory_verify.specs.declared.fault.CheckFault.TheVariants as check
-use Rattle.dory_verify.specs.Checks.{place_in_frame, echo, same_id}
+use Rattle.dory_verify.specs.declared.reply.Allowed.{Allowed}
+use Rattle.dory_verify.specs.declared.reply.Allowed.TheVariants as kind
+use Rattle.dory_verify.specs.Checks.{◌>>=◌, form, echo}
 use Rattle.dory_member.specs.declared.phase.Single.{Single}
 use Rattle.dory_member.specs.declared.phase.Single.TheVariants.{Which, Stage, Order, Follow}
 use Rattle.dory_member.specs.declared.outcome.Mark.{Mark}
 use Rattle.dory_member.specs.declared.outcome.Fault.{Fault}
 use Rattle.dory_member.specs.declared.outcome.Fault.TheVariants as fault
 
-infixl 10 ◌>>=◌
--- go on with what a check gave, or stop at the fault
-abbrev pub ◌>>=◌ : {A B : Type 0} → Result A Fault → (A → Result B Fault) → Result B Fault
-(Ok x) >>= f = f x
-(Err e) >>= f = Err e
-
 -- a check's fault, as the command's
 abbrev pub checked : {A : Type 0} → Result A CheckFault → Result A Fault
 checked (Ok x) = Ok x
 checked (Err e) = Err (fault.Check e)
 
--- Which allows Id, a Stage Staged and Committed, Order and Follow Committed, and each a refusal
-abbrev pub is_answer : Single → What → Bool
-is_answer ask (At length) = false
-is_answer ask (Finds_ f) = false
-is_answer ask (Refused code) = true
-is_answer (Which n) (Id number id) = true
-is_answer (Which n) (Staged id) = false
-is_answer (Which n) (Committed number id) = false
-is_answer (Stage i) (Id number id) = false
-is_answer (Stage i) (Staged id) = true
-is_answer (Stage i) (Committed number id) = true
-is_answer (Order i) (Id number id) = false
-is_answer (Order i) (Staged id) = false
-is_answer (Order i) (Committed number id) = true
-is_answer (Follow n i) (Id number id) = false
-is_answer (Follow n i) (Staged id) = false
-is_answer (Follow n i) (Committed number id) = true
-
--- a message that decodes, and whose kind the ask allows
-abbrev pub formed : Side → Single → Result Reply WireFault → Result Reply CheckFault
-formed side ask (Ok reply) = if is_answer ask reply.what then Ok reply else Err (check.Form side 4)
-formed side ask (Err e) = Err (check.Form side (place_in_frame e))
-
--- bytes that are a frame
-abbrev pub framed : Side → Single → Option (List ℕ) → Result Reply CheckFault
-framed side ask None = Err (check.Form side 0)
-framed side ask (Some message) = formed side ask (reply_of message)
-
--- Form: the bytes are a frame, its message decodes as a reply, and its kind is one that the ask allows
-abbrev pub form : Side → Single → List ℕ → Result Reply CheckFault
-form side ask frame = framed side ask (message_in frame)
+-- the replies that an ask allows
+abbrev pub allowed : Single → Allowed
+allowed (Which n) = kind.Id
+allowed (Stage i) = kind.StagedOrCommitted
+allowed (Order i) = kind.Committed
+allowed (Follow n i) = kind.Committed
 
 -- a number and an update
 abbrev pub mark : ℕ → UpdateId → Mark
@@ -97,6 +65,6 @@ said side ask what = Err (fault.Check (check.Form side 4))
 -- what a frame confirms that came to an ask, or the first fault
 unfoldable pub confirmed : Side → Single → AskId → List ℕ → Result Mark Fault
 confirmed side ask asked frame = do
-  reply ← checked (form side ask frame)
+  reply ← checked (form side (allowed ask) frame)
   e ← checked (echo side asked reply)
   said side ask reply.what

@@ -1,100 +1,34 @@
 //! The checks of a reply that is checked by itself: Form, Echo, Refused, and what it confirms.
-ghost use Rattle.std.specs.Prelude.{◌≡◌, IfOk, IsTrue};
+ghost use Rattle.std.specs.Prelude.{◌≡◌, IfOk};
+ghost use Rattle.dory_base.specs.Log.{same_id};
 ghost use Rattle.dory_wire.specs.Spelling.{IsId, IsNumber, IsWhat};
 ghost use Rattle.dory_wire.specs.declared.message.What.TheVariants.{Committed};
-ghost use Rattle.dory_verify.specs.Checks.{echo, same_ask, same_id};
-ghost use Rattle.dory_member.specs.Single.{confirmed, form, is_answer, refused, said, taken_by, wanted};
+ghost use Rattle.dory_member.specs.Single.{allowed, confirmed, refused, said, taken_by, wanted};
 ghost use Rattle.dory_member.specs.Within.{IsMarkOf};
 
 use crate::outcome::{Fault, Mark};
 use crate::phase::Single;
 use dory_base::{AskId, NoMemory, Refusal, Side, UpdateId};
-use dory_verify::CheckFault;
-use dory_wire::{Reply, What, WireFault, decode_reply, whole_message};
+use dory_verify::{Allowed, CheckFault, VerifyError, echoed, formed};
+use dory_wire::What;
 use std::alloc::Global;
 
-/// Whether the ask allows such a reply.
-fn is_answer(ask: Single, what: &What) -> bool
-    ensures { result ≡ is_answer ask what.now }
+/// The replies that an ask allows.
+fn allowed(ask: Single) -> Allowed
+    ensures { result ≡ allowed ask }
 {
-    match what {
-        What::At { .. } => false,
-        What::Found { .. } => false,
-        What::Refused { .. } => true,
-        What::Id { .. } => match ask {
-            Single::Which { .. } => true,
-            Single::Stage { .. } => false,
-            Single::Order { .. } => false,
-            Single::Follow { .. } => false,
-        },
-        What::Staged { .. } => match ask {
-            Single::Which { .. } => false,
-            Single::Stage { .. } => true,
-            Single::Order { .. } => false,
-            Single::Follow { .. } => false,
-        },
-        What::Committed { .. } => match ask {
-            Single::Which { .. } => false,
-            Single::Stage { .. } => true,
-            Single::Order { .. } => true,
-            Single::Follow { .. } => true,
-        },
+    match ask {
+        Single::Which { .. } => Allowed::Id,
+        Single::Stage { .. } => Allowed::StagedOrCommitted,
+        Single::Order { .. } => Allowed::Committed,
+        Single::Follow { .. } => Allowed::Committed,
     }
-}
-
-/// The reply that a frame is.
-fn formed(
-    alloc: Global,
-    side: Side,
-    ask: Single,
-    frame: &[u8],
-) -> Result<Result<Reply, CheckFault>, NoMemory>
-    ensures exact { IfOk result (λ r. r ≡ form side ask frame.now) }
-    ensures range { IfOk result (λ r. IfOk r (λ reply. IsWhat reply.what)) }
-{
-    let Some(message) = whole_message(frame) else {
-        return Ok(Err(CheckFault::Form { side, at: 0 }));
-    };
-    match decode_reply(alloc, message) {
-        Ok(reply) => {
-            if is_answer(ask, &reply.what) {
-                Ok(Ok(reply))
-            } else {
-                Ok(Err(CheckFault::Form { side, at: 4 }))
-            }
-        }
-        Err(WireFault::Kind { .. }) => Ok(Err(CheckFault::Form { side, at: 4 })),
-        Err(WireFault::Body { at }) => Ok(Err(CheckFault::Form { side, at: at + 4 })),
-        Err(WireFault::Trailing { at }) => Ok(Err(CheckFault::Form { side, at: at + 4 })),
-        Err(WireFault::NoMemory) => Err(NoMemory),
-    }
-}
-
-fn is_same_ask(a: &AskId, b: &AskId) -> bool
-    ensures { result ≡ same_ask a.now b.now }
-{
-    a.member.0 == b.member.0 && a.serial == b.serial && a.step == b.step
 }
 
 fn is_same_id(a: &UpdateId, b: &UpdateId) -> bool
     ensures { result ≡ same_id a.now b.now }
 {
     a.member.0 == b.member.0 && a.serial == b.serial
-}
-
-/// That a reply answers the ask that was put.
-fn echoed(side: Side, asked: AskId, reply: &Reply) -> Result<(), CheckFault>
-    ensures { result ≡ echo side asked reply.now }
-{
-    if is_same_ask(&reply.ask, &asked) {
-        Ok(())
-    } else {
-        Err(CheckFault::Echo {
-            side,
-            asked,
-            got: reply.ask,
-        })
-    }
 }
 
 /// That the mark got is the one wanted.
@@ -194,10 +128,10 @@ pub fn confirmed(
     ensures exact { IfOk result (λ r. r ≡ confirmed side ask asked frame.now) }
     ensures range { IfOk result (λ r. IfOk r (IsMarkOf ask)) }
 {
-    let reply = match formed(alloc, side, ask, frame) {
-        Ok(Ok(reply)) => reply,
-        Ok(Err(fault)) => return Ok(Err(Fault::Check(fault))),
-        Err(NoMemory) => return Err(NoMemory),
+    let reply = match formed(alloc, side, allowed(ask), frame) {
+        Ok(reply) => reply,
+        Err(VerifyError::Check(fault)) => return Ok(Err(Fault::Check(fault))),
+        Err(VerifyError::NoMemory) => return Err(NoMemory),
     };
     match echoed(side, asked, &reply) {
         Ok(()) => Ok(said(side, ask, &reply.what)),

@@ -1,10 +1,11 @@
 -- What a pair of replies without a fault says.
-use Rattle.std.proofs.Common.{◌≡◌, ℕ, zero, suc, ◌≤◌, ◌+◌, Bool, true, false, cond, List, [], ◌∷◌, drop, length, Option, Some, None, Result, Ok, Err, ap, refl, ◌∙◌, subst, arith}
+use Rattle.std.proofs.Common.{◌≡◌, ℕ, zero, suc, ◌≤◌, ◌+◌, Bool, true, false, cond, List, [], ◌∷◌, drop, length, Result, Ok, Err, ap, refl, ◌∙◌, subst, arith}
 use Rattle.std.specs.Prelude.{nat_lt, ◌==◌, ◌&&◌, bit_xor}
 use Rattle.std.proofs.lemmas.Bool.Decides.{nat_tests}
 use Rattle.dory_base.specs.declared.ids.Side.{Side}
 use Rattle.dory_base.specs.declared.ids.Side.TheVariants.{Lead, Follow}
 use Rattle.dory_base.specs.declared.ids.AskId.{AskId}
+use Rattle.dory_base.specs.Log.{same_id}
 use Rattle.dory_base.specs.declared.found.Place.{Place}
 use Rattle.dory_base.specs.declared.found.Sum.{Sum}
 use Rattle.dory_base.specs.declared.found.Found.{Found}
@@ -13,46 +14,27 @@ use Rattle.dory_fields.specs.Bytes.{IsBytes}
 use Rattle.dory_wire.specs.declared.message.What.{What}
 use Rattle.dory_wire.specs.declared.message.What.TheVariants.{At, Found as Finds, Id, Staged, Committed, Refused}
 use Rattle.dory_wire.specs.declared.message.Reply.{Reply}
-use Rattle.dory_wire.specs.declared.fault.WireFault.{WireFault}
-use Rattle.dory_wire.specs.Frame.{message_in}
-use Rattle.dory_wire.specs.Reading.{reply_of, reply_or_none, if_read}
+use Rattle.dory_wire.specs.Reading.{reply_or_none, if_read}
 use Rattle.dory_wire.specs.Spelling.{IsWhat, IsFound}
 use Rattle.dory_wire.proofs.FrameLaws.{frame_is}
 use Rattle.dory_wire.proofs.ReplyLaws.{reply_takes}
 use Rattle.dory_verify.specs.declared.fault.CheckFault.{CheckFault}
 use Rattle.dory_verify.specs.declared.fault.CheckFault.TheVariants as fault
+use Rattle.dory_verify.specs.declared.reply.Allowed.TheVariants as allowed
 use Rattle.dory_verify.specs.Honest.{IsFoundIn}
 use Rattle.dory_verify.specs.Tags.{xor_bits, tag_sum}
-use Rattle.dory_verify.specs.Checks.{◌>>=◌, is_allowed, formed, framed, form, echo, found_given, not_stale, same_version, same_id, same_place, same_manifest, counted, adds_up, all_add_up, both_found, of_one_version, first_fault_of}
-
-bind_ok : {A B : Type 0} (r : Result A CheckFault) (f : A → Result B CheckFault) (y : B) → (r >>= f) ≡ Ok y → (x : A) × (r ≡ Ok x) × (f x ≡ Ok y)
-bind_ok (Ok x) f y e = (x, refl, e)
-bind_ok (Err d) f y e = absurd (cc)
+use Rattle.dory_verify.specs.Checks.{◌>>=◌, form, echo, found_given, not_stale, same_version, same_place, same_manifest, counted, adds_up, all_add_up, both_found, of_one_version, first_fault_of}
+use Rattle.dory_verify.proofs.FormLaws.{bind_ok, form_ok}
 
 -- one check, and then the others
 abbrev pub then_or : Result (Unit {0}) CheckFault → Result (Unit {0}) CheckFault → Result (Unit {0}) CheckFault
 then_or r s = r >>= (λ u. s)
 
--- what was read, and what was checked
-abbrev ok_read : Reply → Result Reply WireFault
-ok_read r = Ok r
-
+-- what was checked
 abbrev ok_both : Found × Found → Result (Found × Found) CheckFault
 ok_both b = Ok b
 
 -- ---- Form, Echo and Refused
-
-read_ok : (side : Side) (latest : Bool) (read : Result Reply WireFault) (r : Reply) → formed side latest read ≡ Ok r → read ≡ Ok r
-read_ok side latest (Err e) r is = absurd (cc)
-read_ok side latest (Ok reply) r is = by (is_allowed latest reply.what) is
-  where
-    by : (b : Bool) → cond b (Ok reply) (Err (fault.Form side 4)) ≡ Ok r → ok_read reply ≡ ok_read r
-    by true e = cc
-    by false e = absurd (cc)
-
-message_ok : (side : Side) (latest : Bool) (m : Option (List ℕ)) (r : Reply) → framed side latest m ≡ Ok r → (message : List ℕ) × (m ≡ Some message) × (reply_of message ≡ Ok r)
-message_ok side latest None r is = absurd (cc)
-message_ok side latest (Some message) r is = (message, refl, read_ok side latest (reply_of message) r is)
 
 found_ok : (side : Side) (w : What) (f : Found) → found_given side w ≡ Ok f → w ≡ Finds f
 found_ok side (At n) f is = absurd (cc)
@@ -68,9 +50,9 @@ bytes_dropped (suc n) [] h = h
 bytes_dropped (suc n) (b ∷ bytes) h = bytes_dropped n bytes (λ i. h (suc i))
 
 -- a frame that found f, and f's ranges
-in_frame : (side : Side) (frame : List ℕ) (r : Reply) (f : Found) → IsBytes frame → form side false frame ≡ Ok r → found_given side r.what ≡ Ok f → IsFoundIn frame f × IsFound f
+in_frame : (side : Side) (frame : List ℕ) (r : Reply) (f : Found) → IsBytes frame → form side allowed.Found frame ≡ Ok r → found_given side r.what ≡ Ok f → IsFoundIn frame f × IsFound f
 in_frame side frame r f bytes formed_as found_as =
-    let m = message_ok side false (message_in frame) r formed_as in
+    let m = form_ok side allowed.Found frame r formed_as in
     let framing = frame_is frame m.0 bytes m.1 in
     let inside : drop 4 frame ≡ m.0 = ap (drop 4) framing.0 in
     let spelled = reply_takes m.0 r (subst IsBytes inside (bytes_dropped 4 frame bytes)) m.2 in
@@ -87,15 +69,15 @@ pub record AreFound (lead follow : List ℕ) (l f : Found) : Type 0 where
 pub both_ok : (first second : AskId) (lead follow : List ℕ) (both : Found × Found) → IsBytes lead → IsBytes follow → both_found first second lead follow ≡ Ok both → AreFound lead follow both.0 both.1
 unfolding both_found
 both_ok first second lead follow both lead_bytes follow_bytes is =
-    let l = bind_ok (form Lead false lead) _ both is in
-    let g = bind_ok (form Follow false follow) _ both l.2 in
+    let l = bind_ok (form Lead allowed.Found lead) _ both is in
+    let g = bind_ok (form Follow allowed.Found follow) _ both l.2 in
     let e = bind_ok (echo Lead first l.0) _ both g.2 in
     let h = bind_ok (echo Follow second g.0) _ both e.2 in
     let found_l = bind_ok (found_given Lead l.0.what) _ both h.2 in
     let found_f = bind_ok (found_given Follow g.0.what) _ both found_l.2 in
     made l.0 g.0 found_l.0 found_f.0 l.1 g.1 found_l.1 found_f.1 found_f.2
   where
-    made : (r s : Reply) (x y : Found) → form Lead false lead ≡ Ok r → form Follow false follow ≡ Ok s → found_given Lead r.what ≡ Ok x → found_given Follow s.what ≡ Ok y
+    made : (r s : Reply) (x y : Found) → form Lead allowed.Found lead ≡ Ok r → form Follow allowed.Found follow ≡ Ok s → found_given Lead r.what ≡ Ok x → found_given Follow s.what ≡ Ok y
         → ok_both (x, y) ≡ ok_both both → AreFound lead follow both.0 both.1
     made r s x y a b i j given =
         let same : (x, y) ≡ both = cc in

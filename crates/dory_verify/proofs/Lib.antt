@@ -3,7 +3,9 @@ pub mod TagLaws
 pub mod Shifts
 pub mod TagRuns
 pub mod Going
+pub mod FormLaws
 pub mod CheckLaws
 pub mod Tagged
 pub mod Beside
 pub mod Passing
+pub mod Honesty

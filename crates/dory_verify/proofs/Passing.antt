@@ -1,8 +1,9 @@
 -- The first fault of replies that answer their asks: none of a pair of lengths or of two honest domains, and of a search the refusal.
-use Rattle.std.proofs.Common.{◌≡◌, ℕ, ◌+◌, ◌≤◌, ◌^◌, Bool, true, false, cond, List, [], ◌∷◌, length, map, Option, Some, None, Result, Ok, Err, ap, refl, sym, ◌∙◌, arith, le-ltb}
+use Rattle.std.proofs.Common.{◌≡◌, ℕ, ◌+◌, ◌≤◌, ◌^◌, Bool, true, cond, List, [], ◌∷◌, length, map, Some, Ok, Err, ap, refl, sym, ◌∙◌, arith, le-ltb}
 use Rattle.std.specs.Prelude.{◌==◌, ◌&&◌, bit_xor}
 use Rattle.std.specs.List.{AllByRecursion}
-use Rattle.std.proofs.lemmas.Bool.Decides.{nat_tests}
+use Rattle.std.proofs.lemmas.Bool.{eq-eqb}
+use Rattle.dory_base.proofs.SameLaws.{same_id_refl}
 use Rattle.dory_base.specs.Dims.{Dims}
 use Rattle.dory_base.specs.declared.entry.Entry.{Entry}
 use Rattle.dory_base.specs.declared.ids.Side.{Side}
@@ -19,48 +20,18 @@ use Rattle.dory_hmac.specs.declared.folder_keys.FolderKeys.{FolderKeys}
 use Rattle.dory_query.specs.Pairs.{ArePairs}
 use Rattle.dory_wire.specs.declared.message.What.{What}
 use Rattle.dory_wire.specs.declared.message.What.TheVariants.{At, Found as Finds, Refused}
-use Rattle.dory_wire.specs.declared.message.Reply.{Reply}
-use Rattle.dory_wire.specs.declared.fault.WireFault.{WireFault}
-use Rattle.dory_wire.specs.Frame.{message_in}
-use Rattle.dory_wire.specs.Reading.{reply_of, reply_in, reply_or_none, if_read}
-use Rattle.dory_verify.specs.declared.fault.CheckFault.{CheckFault}
+use Rattle.dory_wire.specs.Reading.{reply_in}
 use Rattle.dory_verify.specs.declared.fault.CheckFault.TheVariants as fault
+use Rattle.dory_verify.specs.declared.reply.Allowed.TheVariants as allowed
 use Rattle.dory_verify.specs.Tags.{xor_bits, line_tag, tag_sum}
 use Rattle.dory_verify.specs.SideBySide.{IsTagged}
 use Rattle.dory_verify.specs.Honest.{reply, found_by, IsSearch}
-use Rattle.dory_verify.specs.Checks.{◌>>=◌, is_allowed, formed, framed, form, same_ask, echo, found_given, not_stale, same_version, same_place, same_manifest, counted, adds_up, all_add_up, lengths_of, both_found, of_one_version, first_fault_of}
+use Rattle.dory_verify.specs.Checks.{◌>>=◌, is_allowed, form, echo, found_given, not_stale, same_version, same_place, same_manifest, counted, adds_up, all_add_up, lengths_of, both_found, of_one_version, first_fault_of}
+use Rattle.dory_verify.proofs.FormLaws.{bind_is, bind_err, form_is, echo_is}
 use Rattle.dory_verify.proofs.Shifts.{sums_add}
 use Rattle.dory_verify.proofs.Tagged.{all_tagged, entries_taken}
 
-bind_is : {A B : Type 0} (r : Result A CheckFault) (x : A) (f : A → Result B CheckFault) (z : Result B CheckFault) → r ≡ Ok x → f x ≡ z → (r >>= f) ≡ z
-bind_is r x f z e h = ap (λ v. v >>= f) e ∙ h
-
-bind_err : {A B : Type 0} (r : Result A CheckFault) (e : CheckFault) (f : A → Result B CheckFault) → r ≡ Err e → (r >>= f) ≡ Err e
-bind_err r e f is = ap (λ v. v >>= f) is
-
 -- ---- Form, Echo and Stale
-
-read_is : (read : Result Reply WireFault) (r : Reply) → if_read read ≡ Some r → read ≡ Ok r
-read_is (Ok x) r e = cc
-read_is (Err x) r e = absurd (cc)
-
-message_is : (m : Option (List ℕ)) (r : Reply) → reply_or_none m ≡ Some r → (message : List ℕ) × (m ≡ Some message) × (reply_of message ≡ Ok r)
-message_is None r e = absurd (cc)
-message_is (Some message) r e = (message, refl, read_is (reply_of message) r e)
-
--- a reply of an allowed kind passes Form
-form_is : (side : Side) (latest : Bool) (frame : List ℕ) (r : Reply) → reply_in frame ≡ Some r → is_allowed latest r.what ≡ true → form side latest frame ≡ Ok r
-form_is side latest frame r e allowed =
-    let m = message_is (message_in frame) r e in
-    ap (framed side latest) m.1 ∙ ap (formed side latest) m.2 ∙ ap (λ b. cond b (Ok r) (Err (fault.Form side 4))) allowed
-
-same_number : (n : ℕ) → (n == n) ≡ true
-same_number n = grind (arith, nat_tests)
-
-echo_is : (side : Side) (ask : AskId) (what : What) → echo side ask (reply ask what) ≡ Ok tt
-echo_is side ask what =
-    let same : same_ask ask ask ≡ true = (λ i. (same_number ask.member.0 i && same_number ask.serial i) && same_number ask.step i) in
-    ap (λ b. cond b (Ok tt) (Err (fault.Echo side ask ask))) same
 
 fresh_is : (side : Side) (seen n : ℕ) → seen ≤ n → not_stale side seen n ≡ Ok tt
 fresh_is side seen n l = ap (λ b. cond b (Err (fault.Stale side n seen)) (Ok tt)) (le-ltb n seen l)
@@ -69,8 +40,8 @@ fresh_is side seen n l = ap (λ b. cond b (Err (fault.Stale side n seen)) (Ok tt
 pub lengths_pass : (seen : ℕ) (first second : AskId) (lead follow : List ℕ) (n m : ℕ) → reply_in lead ≡ Some (reply first (At n)) → reply_in follow ≡ Some (reply second (At m)) → seen ≤ n → seen ≤ m → lengths_of seen first second lead follow ≡ Ok (n, m)
 unfolding lengths_of
 lengths_pass seen first second lead follow n m r s l l' =
-    bind_is (form Lead true lead) (reply first (At n)) _ _ (form_is Lead true lead (reply first (At n)) r refl)
-    (bind_is (form Follow true follow) (reply second (At m)) _ _ (form_is Follow true follow (reply second (At m)) s refl)
+    bind_is (form Lead allowed.At lead) (reply first (At n)) _ _ (form_is Lead allowed.At lead (reply first (At n)) r refl)
+    (bind_is (form Follow allowed.At follow) (reply second (At m)) _ _ (form_is Follow allowed.At follow (reply second (At m)) s refl)
     (bind_is (echo Lead first (reply first (At n))) tt _ _ (echo_is Lead first (At n))
     (bind_is (echo Follow second (reply second (At m))) tt _ _ (echo_is Follow second (At m))
     (bind_is (not_stale Lead seen n) tt _ _ (fresh_is Lead seen n l)
@@ -79,18 +50,18 @@ lengths_pass seen first second lead follow n m r s l l' =
 -- ---- what a search finds, or is refused
 
 -- two allowed kinds pass Form and Echo
-answers_are : (first second : AskId) (lead follow : List ℕ) (v w : What) → reply_in lead ≡ Some (reply first v) → reply_in follow ≡ Some (reply second w) → is_allowed false v ≡ true → is_allowed false w ≡ true
+answers_are : (first second : AskId) (lead follow : List ℕ) (v w : What) → reply_in lead ≡ Some (reply first v) → reply_in follow ≡ Some (reply second w) → is_allowed allowed.Found v ≡ true → is_allowed allowed.Found w ≡ true
     → both_found first second lead follow ≡ (found_given Lead v >>= (λ l. found_given Follow w >>= (λ f. Ok (l, f))))
 unfolding both_found
 answers_are first second lead follow v w r s lead_allowed follow_allowed =
-    bind_is (form Lead false lead) (reply first v) _ _ (form_is Lead false lead (reply first v) r lead_allowed)
-    (bind_is (form Follow false follow) (reply second w) _ _ (form_is Follow false follow (reply second w) s follow_allowed)
+    bind_is (form Lead allowed.Found lead) (reply first v) _ _ (form_is Lead allowed.Found lead (reply first v) r lead_allowed)
+    (bind_is (form Follow allowed.Found follow) (reply second w) _ _ (form_is Follow allowed.Found follow (reply second w) s follow_allowed)
     (bind_is (echo Lead first (reply first v)) tt _ _ (echo_is Lead first v)
     (bind_is (echo Follow second (reply second w)) tt _ _ (echo_is Follow second w) refl)))
 
 -- the lead's refusal is the first fault
 pub lead_refused : (keys : FolderKeys) (columns : List ℕ) (version seen : ℕ) (first second : AskId) (lead follow : List ℕ) (code : Refusal) (w : What)
-    → reply_in lead ≡ Some (reply first (Refused code)) → reply_in follow ≡ Some (reply second w) → is_allowed false w ≡ true → first_fault_of keys columns version seen first second lead follow ≡ Err (fault.Refused Lead code)
+    → reply_in lead ≡ Some (reply first (Refused code)) → reply_in follow ≡ Some (reply second w) → is_allowed allowed.Found w ≡ true → first_fault_of keys columns version seen first second lead follow ≡ Err (fault.Refused Lead code)
 unfolding first_fault_of
 lead_refused keys columns version seen first second lead follow code w r s allowed =
     bind_err (both_found first second lead follow) (fault.Refused Lead code) _ (answers_are first second lead follow (Refused code) w r s refl allowed)
@@ -105,17 +76,17 @@ follow_refused keys columns version seen first second lead follow f code r s =
 -- ---- Version, Manifest and Count
 
 version_is : (side : Side) (asked : ℕ) (f : Found) → f.version ≡ asked → same_version side asked f ≡ Ok tt
-version_is side asked f e = ap (λ b. cond b (Ok tt) (Err (fault.Version side asked f.version))) (ap (λ n. n == asked) e ∙ same_number asked)
+version_is side asked f e = ap (λ b. cond b (Ok tt) (Err (fault.Version side asked f.version))) (ap (λ n. n == asked) e ∙ eq-eqb asked asked refl)
 
 same_line : (p : Place) → same_place p p ≡ true
-same_line p = λ i. (same_number p.slot i && same_number p.doc.0 i) && (same_number p.id.member.0 i && same_number p.id.serial i)
+same_line p = λ i. (eq-eqb p.slot p.slot refl i && eq-eqb p.doc.0 p.doc.0 refl i) && same_id_refl p.id i
 
 manifest_is : (at : ℕ) (lines : List Place) → same_manifest at lines lines ≡ Ok tt
 manifest_is at [] = refl
 manifest_is at (p ∷ lines) = ap (λ b. cond b (same_manifest (at + 1) lines lines) (Err (fault.Manifest at))) (same_line p) ∙ manifest_is (at + 1) lines
 
 count_is : (side : Side) (want : ℕ) (f : Found) → length f.sums ≡ want → counted side want f ≡ Ok tt
-count_is side want f e = ap (λ b. cond b (Ok tt) (Err (fault.Count side (length f.sums) want))) (ap (λ n. n == want) e ∙ same_number want)
+count_is side want f e = ap (λ b. cond b (Ok tt) (Err (fault.Count side (length f.sums) want))) (ap (λ n. n == want) e ∙ eq-eqb want want refl)
 
 lead_counts : (m : ℕ) (slots : Slots) (columns : List ℕ) (mine other : List (List Bool)) → ArePairs m columns mine other → length (map (sum_of slots) mine) ≡ length columns
 lead_counts m slots [] [] other h = refl
@@ -137,7 +108,7 @@ follow_counts m slots (c ∷ columns) (x ∷ mine) (o ∷ other) h = omega (arit
 adds_is : (keys : FolderKeys) (places : List Place) (probe column : ℕ) (l f : Sum) → bit_xor l.tag f.tag ≡ tag_sum keys column places (xor_bits l.bits f.bits) → adds_up keys places probe column l f ≡ Ok tt
 adds_is keys places probe column l f e =
     let want = tag_sum keys column places (xor_bits l.bits f.bits) in
-    ap (λ b. cond b (Ok tt) (Err (fault.TagSum probe (bit_xor l.tag f.tag) want))) (ap (λ n. n == want) e ∙ same_number want)
+    ap (λ b. cond b (Ok tt) (Err (fault.TagSum probe (bit_xor l.tag f.tag) want))) (ap (λ n. n == want) e ∙ eq-eqb want want refl)
 
 -- the sums of one table for a pair of shares at each column pass
 all_add : (keys : FolderKeys) (m : ℕ) (slots : Slots) (probe : ℕ) (columns : List ℕ) (mine other : List (List Bool)) → AllByRecursion (IsTagged (line_tag keys) m) (live_of slots) → ArePairs m columns mine other

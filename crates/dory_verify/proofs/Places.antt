@@ -1,17 +1,14 @@
 -- The place of a fault lies within the message, so it has a place in the frame.
-use Rattle.std.proofs.Common.{◌≡◌, ℕ, zero, suc, ◌+◌, ◌≤◌, Bool, true, false, cond, List, [], ◌∷◌, length, drop, ltb, leb, eqb, Some, None, Option, Result, Ok, Err, refl, subst, ap, ◌∙◌, arith}
-use Rattle.std.specs.Prelude.{nat_lt, ◌&&◌, ◌==◌}
+use Rattle.std.proofs.Common.{◌≡◌, ℕ, zero, suc, ◌+◌, ◌≤◌, Bool, true, false, cond, List, [], ◌∷◌, length, Result, Ok, Err, subst, arith}
+use Rattle.std.specs.Prelude.{nat_lt, ◌==◌}
 use Rattle.dory_base.specs.declared.ids.UpdateId.{UpdateId}
 use Rattle.std.specs.Int.{Width, w16, w32, w64, byte_len}
-use Rattle.dory_fields.proofs.Fields.{both_true}
 use Rattle.dory_fields.specs.Packing.{packed_len}
 use Rattle.dory_fields.specs.declared.fault.FieldFault.{FieldFault}
 use Rattle.dory_fields.specs.declared.fault.FieldFault.TheVariants.{CutShort}
 use Rattle.dory_fields.specs.Reading.{Read, many_at, ◌>>=◌, place, field_at, ranged, number_at, tested_at, byte_at, bits_at}
 use Rattle.dory_wire.specs.declared.fault.WireFault.{WireFault}
 use Rattle.dory_wire.specs.declared.fault.WireFault.TheVariants.{Kind, Body, Trailing, NoMemory}
-use Rattle.std.proofs.lemmas.Bool.{leb-true, eqb-true}
-use Rattle.dory_wire.specs.Frame.{is_length, length_in, message_in}
 use Rattle.dory_wire.specs.Reading.{tag_at, fault_of, Fails, ask_at, id_at, line_at, lines_at, sum_at, found_at, shape_at, retained_at, member_at, past_at, role_at, named_at, numbered_at, counted_at, later_code_at, code_at, refusal_at, holding_at, refused_at, what_at, ended, reply_at, reply_of, is_answering, is_count, is_lines, is_few, is_depth, is_probes, is_code, is_slot, is_number, is_role}
 
 -- the fault names a place within so many bytes, or none
@@ -218,23 +215,3 @@ body_near message e at is named = subst (IsPlaced (length message)) named (fails
 
 pub trailing_near : (message : List ℕ) (e : WireFault) (at : ℕ) → Fails e (reply_of message) → e ≡ Trailing at → at ≤ length message
 trailing_near message e at is named = subst (IsPlaced (length message)) named (fails_near message e is)
-
-some_is : (b : Bool) (x y : List ℕ) → cond b (Some x) None ≡ Some y → (b ≡ true) × (x ≡ y)
-some_is true x y e = (refl, cc)
-some_is false x y e = absurd cc
-
-not_none : (b : Bool) (x : Option (List ℕ)) (y : List ℕ) → cond b None x ≡ Some y → x ≡ Some y
-not_none true x y e = absurd cc
-not_none false x y e = e
-
--- a frame's message is short
-pub message_few : (frame message : List ℕ) → message_in frame ≡ Some message → length message ≤ 1048576
-unfolding message_in
-message_few frame message is =
-    let inner = cond (is_length (length_in frame) && eqb (length_in frame) (length (drop 4 frame))) (Some (drop 4 frame)) None in
-    let a = not_none (ltb (length frame) 4) inner message is in
-    let b = some_is (is_length (length_in frame) && eqb (length_in frame) (length (drop 4 frame))) (drop 4 frame) message a in
-    let c = both_true (is_length (length_in frame)) (eqb (length_in frame) (length (drop 4 frame))) b.0 in
-    let d = both_true (leb 1 (length_in frame)) (leb (length_in frame) 1048576) c.0 in
-    let number : length_in frame ≡ length message = eqb-true _ _ c.1 ∙ ap length b.1 in
-    subst (λ (n : ℕ). n ≤ 1048576) number (leb-true (length_in frame) 1048576 d.1)

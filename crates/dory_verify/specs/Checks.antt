@@ -3,10 +3,10 @@ use Rattle.std.specs.Prelude.{ℕ, ◌≡◌, ◌+◌, ◌==◌, ◌&&◌, lengt
 use Rattle.dory_base.specs.declared.ids.Side.{Side}
 use Rattle.dory_base.specs.declared.ids.Side.TheVariants.{Lead, Follow}
 use Rattle.dory_base.specs.declared.ids.AskId.{AskId}
-use Rattle.dory_base.specs.declared.ids.UpdateId.{UpdateId}
 use Rattle.dory_base.specs.declared.found.Place.{Place}
 use Rattle.dory_base.specs.declared.found.Sum.{Sum}
 use Rattle.dory_base.specs.declared.found.Found.{Found}
+use Rattle.dory_base.specs.Log.{same_id}
 use Rattle.dory_hmac.specs.declared.folder_keys.FolderKeys.{FolderKeys}
 use Rattle.dory_wire.specs.declared.message.What.{What}
 use Rattle.dory_wire.specs.declared.message.What.TheVariants.{At, Found as Finds_, Id, Staged, Committed, Refused}
@@ -19,13 +19,15 @@ use Rattle.dory_verify.specs.declared.answer.Answer.{Answer}
 use Rattle.dory_verify.specs.declared.fault.CheckFault.{CheckFault}
 use Rattle.dory_verify.specs.declared.fault.CheckFault.TheVariants as fault
 use Rattle.dory_verify.specs.declared.fault.VerifyError.{VerifyError}
+use Rattle.dory_verify.specs.declared.reply.Allowed.{Allowed}
+use Rattle.dory_verify.specs.declared.reply.Allowed.TheVariants as allowed
 use Rattle.dory_verify.specs.declared.fault.VerifyError.TheVariants as errors
 use Rattle.dory_verify.specs.Tags.{xor_bits, tag_sum}
 use Rattle.dory_verify.specs.Listing.{Lists}
 
 infixl 10 ◌>>=◌
 -- go on with what a check gave, or stop at the fault
-abbrev pub ◌>>=◌ : {A B : Type 0} → Result A CheckFault → (A → Result B CheckFault) → Result B CheckFault
+abbrev pub ◌>>=◌ : {E A B : Type 0} → Result A E → (A → Result B E) → Result B E
 (Ok x) >>= f = f x
 (Err e) >>= f = Err e
 
@@ -39,16 +41,16 @@ abbrev pub Finds : {Y : Type 0} → Result Y VerifyError → Result Y CheckFault
 Finds (Ok x) checked = checked ≡ Ok x
 Finds (Err e) checked = Misses e checked
 
--- an ask for the length allows At, a search Found, and each a refusal
-abbrev pub is_allowed : Bool → What → Bool
-is_allowed true (At length) = true
-is_allowed false (At length) = false
-is_allowed true (Finds_ f) = false
-is_allowed false (Finds_ f) = true
-is_allowed latest (Id number id) = false
-is_allowed latest (Staged id) = false
-is_allowed latest (Committed number id) = false
-is_allowed latest (Refused code) = true
+-- a reply is of a kind that is allowed, or a refusal
+abbrev pub is_allowed : Allowed → What → Bool
+is_allowed allowed.At (At length) = true
+is_allowed allowed.Found (Finds_ f) = true
+is_allowed allowed.Id (Id number id) = true
+is_allowed allowed.StagedOrCommitted (Staged id) = true
+is_allowed allowed.StagedOrCommitted (Committed number id) = true
+is_allowed allowed.Committed (Committed number id) = true
+is_allowed kind (Refused code) = true
+is_allowed kind what = false
 
 -- where in the frame a fault of its message is: the length before it has four bytes
 abbrev pub place_in_frame : WireFault → ℕ
@@ -57,19 +59,19 @@ place_in_frame (Body at) = at + 4
 place_in_frame (Trailing at) = at + 4
 place_in_frame NoMemory = 0
 
--- a message that decodes, and whose kind the ask allows
-abbrev pub formed : Side → Bool → Result Reply WireFault → Result Reply CheckFault
-formed side latest (Ok reply) = if is_allowed latest reply.what then Ok reply else Err (fault.Form side 4)
-formed side latest (Err e) = Err (fault.Form side (place_in_frame e))
+-- a message that decodes, and whose kind is allowed
+abbrev pub formed : Side → Allowed → Result Reply WireFault → Result Reply CheckFault
+formed side kind (Ok reply) = if is_allowed kind reply.what then Ok reply else Err (fault.Form side 4)
+formed side kind (Err e) = Err (fault.Form side (place_in_frame e))
 
 -- bytes that are a frame
-abbrev pub framed : Side → Bool → Option (List ℕ) → Result Reply CheckFault
-framed side latest None = Err (fault.Form side 0)
-framed side latest (Some message) = formed side latest (reply_of message)
+abbrev pub framed : Side → Allowed → Option (List ℕ) → Result Reply CheckFault
+framed side kind None = Err (fault.Form side 0)
+framed side kind (Some message) = formed side kind (reply_of message)
 
--- Form: the bytes are a frame, its message decodes as a reply, and its kind is one that the ask allows
-abbrev pub form : Side → Bool → List ℕ → Result Reply CheckFault
-form side latest frame = framed side latest (message_in frame)
+-- Form: the bytes are a frame, its message decodes as a reply, and its kind is one that is allowed
+abbrev pub form : Side → Allowed → List ℕ → Result Reply CheckFault
+form side kind frame = framed side kind (message_in frame)
 
 -- two asks are one
 abbrev pub same_ask : AskId → AskId → Bool
@@ -105,10 +107,6 @@ not_stale side seen latest = if nat_lt latest seen then Err (fault.Stale side la
 abbrev pub same_version : Side → ℕ → Found → Result (Unit {0}) CheckFault
 same_version side asked f = if f.version == asked then Ok tt else Err (fault.Version side asked f.version)
 
--- two updates are one
-abbrev pub same_id : UpdateId → UpdateId → Bool
-same_id a b = (a.member.0 == b.member.0) && (a.serial == b.serial)
-
 -- two lines are one: slot, document and id
 abbrev pub same_place : Place → Place → Bool
 same_place a b = (a.slot == b.slot) && (a.doc.0 == b.doc.0) && same_id a.id b.id
@@ -142,8 +140,8 @@ all_add_up keys places probe (c ∷ columns) (l ∷ lead) (f ∷ follow) =
 -- the two lengths that replies to Latest give, or the first fault
 unfoldable pub lengths_of : ℕ → AskId → AskId → List ℕ → List ℕ → Result (ℕ × ℕ) CheckFault
 lengths_of seen first second lead follow = do
-  l ← form Lead true lead
-  f ← form Follow true follow
+  l ← form Lead allowed.At lead
+  f ← form Follow allowed.At follow
   e ← echo Lead first l
   g ← echo Follow second f
   length ← length_of Lead l.what
@@ -155,8 +153,8 @@ lengths_of seen first second lead follow = do
 -- what two replies to Search found, or the first fault of Form, Echo and Refused
 unfoldable pub both_found : AskId → AskId → List ℕ → List ℕ → Result (Found × Found) CheckFault
 both_found first second lead follow = do
-  l ← form Lead false lead
-  f ← form Follow false follow
+  l ← form Lead allowed.Found lead
+  f ← form Follow allowed.Found follow
   e ← echo Lead first l
   g ← echo Follow second f
   found ← found_given Lead l.what

@@ -68,6 +68,17 @@ impl From<NoMemory> for VerifyError {
     }
 }
 
+impl From<CheckFault> for VerifyError {
+    ghost use Rattle.std.specs.Prelude.{◌≡◌};
+    ghost use Rattle.dory_verify.specs.declared.fault.VerifyError.TheVariants as errors;
+
+    ghost from_gives = { λ fault e. e ≡ errors.Check fault };
+
+    fn from(fault: CheckFault) -> VerifyError {
+        VerifyError::Check(fault)
+    }
+}
+
 impl fmt::Display for CheckFault {
     ghost use Rattle.std.specs.Prelude.{Some};
     ghost use Rattle.dory_verify.specs.Texts.{check_text};

@@ -4,7 +4,7 @@ ghost use Rattle.dory_base.specs.declared.ids.AskId.{AskId as AskOf};
 ghost use Rattle.dory_verify.specs.Checks.{Finds, lengths_of};
 
 use crate::fault::VerifyError;
-use crate::reply::{echoed, formed, fresh, length};
+use crate::reply::{Allowed, echoed, formed, fresh, length};
 use dory_base::{AskId, Side};
 use std::alloc::Global;
 
@@ -34,8 +34,8 @@ fn lengths(
     ensures exact { Finds result (lengths_of seen first second lead.now follow.now) }
     ensures range { IfOk result (λ n. (n.0 ≤ 1048576) × (n.1 ≤ 1048576)) }
 {
-    let lead = formed(alloc, Side::Lead, true, lead)?;
-    let follow = formed(alloc, Side::Follow, true, follow)?;
+    let lead = formed(alloc, Side::Lead, Allowed::At, lead)?;
+    let follow = formed(alloc, Side::Follow, Allowed::At, follow)?;
     echoed(Side::Lead, first, &lead)?;
     echoed(Side::Follow, second, &follow)?;
     let lead = length(Side::Lead, &lead.what)?;

@@ -48,3 +48,8 @@ pub fn both_honest_pass()
         → reply_in lead ≡ Some (reply first (Finds (found_by history version mine))) → reply_in follow ≡ Some (reply second (Finds (found_by other_history version other)))
         → first_fault_of keys columns version seen first second lead follow ≡ Ok (found_by history version mine, found_by other_history version other) }
 {}
+
+/// What an honest domain finds for its shares is never the forgery.
+pub fn honest_is_no_forgery()
+    ensures { (keys : FolderKeys) (history : List Entry) (version : ℕ) (columns : List ℕ) (shares : List (List Bool)) → ¬ IsForgery keys history version columns shares (found_by history version shares).sums }
+{}

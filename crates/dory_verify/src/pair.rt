@@ -4,7 +4,7 @@ ghost use Rattle.dory_wire.specs.Spelling.{IsFound};
 ghost use Rattle.dory_verify.specs.Checks.{Finds, both_found, of_one_version, same_version, same_place, same_manifest, counted};
 
 use crate::fault::{CheckFault, VerifyError};
-use crate::reply::{echoed, formed, found, fresh};
+use crate::reply::{Allowed, echoed, formed, found, fresh};
 use dory_base::{AskId, Found, Place, Side};
 use std::alloc::Global;
 
@@ -20,8 +20,8 @@ pub fn both_found(
     ensures exact { Finds result (both_found first second lead.now follow.now) }
     ensures range { IfOk result (λ both. IsFound both.0 × IsFound both.1) }
 {
-    let l = formed(alloc, Side::Lead, false, lead)?;
-    let f = formed(alloc, Side::Follow, false, follow)?;
+    let l = formed(alloc, Side::Lead, Allowed::Found, lead)?;
+    let f = formed(alloc, Side::Follow, Allowed::Found, follow)?;
     echoed(Side::Lead, first, &l)?;
     echoed(Side::Follow, second, &f)?;
     let lead = found(Side::Lead, l.what)?;

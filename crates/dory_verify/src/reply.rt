@@ -1,5 +1,5 @@
 //! The checks of one reply: Form, Echo, Refused and Stale.
-ghost use Rattle.std.specs.Prelude.{◌≡◌, ◌≤◌, IfOk, IsTrue};
+ghost use Rattle.std.specs.Prelude.{◌≡◌, ◌≤◌, IfOk};
 ghost use Rattle.dory_wire.specs.Spelling.{IsReply, IsWhat, IsFound};
 ghost use Rattle.dory_verify.specs.Checks.{Finds, form, echo, is_allowed, same_ask, length_of, found_given, not_stale};
 
@@ -8,23 +8,45 @@ use dory_base::{AskId, Found, Side};
 use dory_wire::{Reply, What, WireFault, decode_reply, whole_message};
 use std::alloc::Global;
 
-/// Whether an ask, for the length or a search, allows such a reply.
-fn allows(latest: bool, what: &What) -> bool
-    ensures { result ≡ is_allowed latest what.now }
+/// Which replies an ask allows. Each allows a refusal too.
+#[derive(Clone, Copy, Debug, PartialEq, Eq)]
+pub enum Allowed {
+    /// At, to a Latest.
+    At,
+    /// Found, to a Search.
+    Found,
+    /// Id, to a Which.
+    Id,
+    /// Staged and Committed, to a Stage.
+    StagedOrCommitted,
+    /// Committed, to an Order or a Follow.
+    Committed,
+}
+
+/// Whether such a reply is allowed.
+fn allows(allowed: Allowed, what: &What) -> bool
+    ensures { result ≡ is_allowed allowed what.now }
 {
-    match what {
-        What::At { .. } => latest,
-        What::Found { .. } => !latest,
-        What::Id { .. } => false,
-        What::Staged { .. } => false,
-        What::Committed { .. } => false,
-        What::Refused { .. } => true,
+    match allowed {
+        Allowed::At => matches!(what, What::At { .. } | What::Refused { .. }),
+        Allowed::Found => matches!(what, What::Found { .. } | What::Refused { .. }),
+        Allowed::Id => matches!(what, What::Id { .. } | What::Refused { .. }),
+        Allowed::StagedOrCommitted => matches!(
+            what,
+            What::Staged { .. } | What::Committed { .. } | What::Refused { .. }
+        ),
+        Allowed::Committed => matches!(what, What::Committed { .. } | What::Refused { .. }),
     }
 }
 
-/// The reply that a frame is.
-pub fn formed(alloc: Global, side: Side, latest: bool, frame: &[u8]) -> Result<Reply, VerifyError>
-    ensures exact { Finds result (form side latest frame.now) }
+/// The reply that a frame is, of a kind that is allowed.
+pub fn formed(
+    alloc: Global,
+    side: Side,
+    allowed: Allowed,
+    frame: &[u8],
+) -> Result<Reply, VerifyError>
+    ensures exact { Finds result (form side allowed frame.now) }
     ensures range { IfOk result (λ r. IsWhat r.what) }
 {
     let Some(message) = whole_message(frame) else {
@@ -32,7 +54,7 @@ pub fn formed(alloc: Global, side: Side, latest: bool, frame: &[u8]) -> Result<R
     };
     match decode_reply(alloc, message) {
         Ok(reply) => {
-            if allows(latest, &reply.what) {
+            if allows(allowed, &reply.what) {
                 Ok(reply)
             } else {
                 Err(VerifyError::Check(CheckFault::Form { side, at: 4 }))
@@ -56,17 +78,17 @@ fn is_same_ask(a: &AskId, b: &AskId) -> bool
 }
 
 /// That a reply answers the ask that was put.
-pub fn echoed(side: Side, asked: AskId, reply: &Reply) -> Result<(), VerifyError>
-    ensures { Finds result (echo side asked reply.now) }
+pub fn echoed(side: Side, asked: AskId, reply: &Reply) -> Result<(), CheckFault>
+    ensures { result ≡ echo side asked reply.now }
 {
     if is_same_ask(&reply.ask, &asked) {
         Ok(())
     } else {
-        Err(VerifyError::Check(CheckFault::Echo {
+        Err(CheckFault::Echo {
             side,
             asked,
             got: reply.ask,
-        }))
+        })
     }
 }
 

@@ -78,26 +78,10 @@ pub fn removing(alloc: Global, state: KeptState, doc: u32) -> Option<Member>
     begun(alloc, state, Command::Remove { doc })
 }
 
-/// A member that searches a word.
-pub fn searching(alloc: Global, state: KeptState, word: &[u8]) -> Option<Member>
-    requires { IsKeptState state }
-{
-    let word = Word::read(word).ok()?;
-    begun(alloc, state, Command::Search { word })
-}
-
 /// Saves, where that is due.
 pub fn save(member: &mut Member) {
     match member.next() {
         Next::Save => member.saved(),
-        _ => {}
-    }
-}
-
-/// Hands over a reply, where one is awaited.
-pub fn hand_over(alloc: Global, member: &mut Member, reply: &[u8]) {
-    match member.next() {
-        Next::Ask { .. } => member.take_reply(alloc, reply),
         _ => {}
     }
 }

@@ -2,10 +2,10 @@
 
 use super::members::{ends, hand_over, kept, posting, save};
 use super::served::{answer, config};
-use crate::{Member, Next};
 use dory_base::Side;
 use dory_domain::DomainCore;
 use dory_kernel::{RowKernel, plain_parity};
+use dory_member::{Member, Next};
 use std::alloc::Global;
 use std::test::*;
 
@@ -70,14 +70,14 @@ fn plays(
 
 /// Whether member 0's post of document 7 stands at 1 at the follower.
 fn posted(alloc: Global, follow: &mut DomainCore) -> Option<bool> {
-    let mut first = posting(alloc, kept(0, 1, 0), 7, b"alpha")?;
+    let mut first = posting(alloc, kept(0, 1), 7, b"alpha")?;
     plays(alloc, &mut first, follow, &staged(0), &committed(0, 0, 1));
     Some(ends(alloc, &first, "posted 7 at 1"))
 }
 
 /// Whether member 1's post, whose Order is answered by Committed 1 with this update, ends so and stays pending.
 fn refused(alloc: Global, follow: &mut DomainCore, of: u8, serial: u8, text: &str) -> Option<bool> {
-    let mut second = posting(alloc, kept(1, 1, 0), 9, b"beta")?;
+    let mut second = posting(alloc, kept(1, 1), 9, b"beta")?;
     plays(
         alloc,
         &mut second,

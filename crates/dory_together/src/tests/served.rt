@@ -1,9 +1,9 @@
 //! The two domains of a folder, and a member's turns at them.
 
 use super::members::{hand_over, save, shape};
-use crate::{Member, Next};
 use dory_base::{FolderId, Side};
 use dory_domain::{DomainCore, FolderConfig};
+use dory_member::{Member, Next};
 use dory_wire::whole_message;
 use std::alloc::Global;
 

@@ -3,16 +3,16 @@
 
 use super::members::{begun, ends, hand_over, kept, posting};
 use super::served::{Domains, FOLLOW, ORDER, SAVE, STAGE, config, does, ends_by, replied};
-use crate::{Command, Member, Next};
 use dory_base::Side;
 use dory_domain::DomainCore;
 use dory_kernel::{RowKernel, plain_parity};
+use dory_member::{Command, Member, Next};
 use std::alloc::Global;
 use std::test::*;
 
 /// Member 0 with its post of document 7, which the lead has at 1.
 fn lost(alloc: Global, domains: &mut Domains) -> Option<Member> {
-    let mut member = posting(alloc, kept(0, 1, 0), 7, b"alpha")?;
+    let mut member = posting(alloc, kept(0, 1), 7, b"alpha")?;
     if !does(alloc, &mut member, domains, &[SAVE, STAGE, STAGE]) {
         return None;
     }
@@ -22,7 +22,7 @@ fn lost(alloc: Global, domains: &mut Domains) -> Option<Member> {
 
 /// Member 1's post of document 9, staged at both domains.
 fn staged(alloc: Global, domains: &mut Domains) -> Option<Member> {
-    let mut member = posting(alloc, kept(1, 1, 0), 9, b"beta")?;
+    let mut member = posting(alloc, kept(1, 1), 9, b"beta")?;
     match does(alloc, &mut member, domains, &[SAVE, STAGE, STAGE]) {
         true => Some(member),
         false => None,

@@ -2,10 +2,10 @@
 
 use super::members::{begun, ends, kept, posting, removing, searching};
 use super::served::{Domains, FOLLOW, LATEST, ORDER, SAVE, SEARCH, STAGE, config, ends_by};
-use crate::{Command, Member};
 use dory_base::Side;
 use dory_domain::DomainCore;
 use dory_kernel::{RowKernel, plain_parity};
+use dory_member::{Command, Member};
 use std::alloc::Global;
 use std::test::*;
 
@@ -24,8 +24,8 @@ const UPDATE: [u8; 6] = [SAVE, STAGE, STAGE, ORDER, FOLLOW, SAVE];
 
 /// Posts of documents 7 and 9 with one word, by members 0 and 1.
 fn posted(alloc: Global, domains: &mut Domains) -> Option<bool> {
-    let first = posting(alloc, kept(0, 1, 0), 7, b"alpha")?;
-    let second = posting(alloc, kept(1, 1, 0), 9, b"alpha")?;
+    let first = posting(alloc, kept(0, 1), 7, b"alpha")?;
+    let second = posting(alloc, kept(1, 1), 9, b"alpha")?;
     let first = ended(alloc, first, domains, &UPDATE, "posted 7 at 1");
     let second = ended(alloc, second, domains, &UPDATE, "posted 9 at 2");
     Some(first && second)
@@ -33,7 +33,7 @@ fn posted(alloc: Global, domains: &mut Domains) -> Option<bool> {
 
 /// Whether a search of the word ends so, and keeps this version as seen.
 fn searched(alloc: Global, domains: &mut Domains, text: &str, seen: u32) -> Option<bool> {
-    let mut search = searching(alloc, kept(3, 5, 0), b"alpha")?;
+    let mut search = searching(alloc, kept(3, 5), b"alpha")?;
     let asked = [SAVE, LATEST, LATEST, SEARCH, SEARCH, SAVE];
     let ended = ends_by(alloc, &mut search, domains, &asked);
     Some(ended && ends(alloc, &search, text) && search.state().seen == seen)
@@ -41,13 +41,13 @@ fn searched(alloc: Global, domains: &mut Domains, text: &str, seen: u32) -> Opti
 
 /// Whether document 7 is removed at 3.
 fn removed(alloc: Global, domains: &mut Domains) -> Option<bool> {
-    let removal = removing(alloc, kept(2, 1, 0), 7)?;
+    let removal = removing(alloc, kept(2, 1), 7)?;
     Some(ended(alloc, removal, domains, &UPDATE, "removed 7 at 3"))
 }
 
 /// Whether both lengths are 3.
 fn measured(alloc: Global, domains: &mut Domains) -> Option<bool> {
-    let latest = begun(alloc, kept(4, 1, 0), Command::Latest)?;
+    let latest = begun(alloc, kept(4, 1), Command::Latest)?;
     let text = "lead 3 follow 3 seen 0";
     Some(ended(alloc, latest, domains, &[SAVE, LATEST, LATEST], text))
 }
