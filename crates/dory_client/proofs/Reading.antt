@@ -8,22 +8,22 @@ use Rattle.dory_io.specs.Bytes.{Reads, Tells}
 use Rattle.dory_io.specs.Causes.{Gave}
 use Rattle.dory_client.specs.declared.input.InputEnd.{InputEnd}
 use Rattle.dory_client.specs.declared.input.InputEnd.TheVariants.{Fault, Long, NoMemory}
-use Rattle.dory_io.specs.Bytes.{Came}
+use Rattle.dory_io.specs.Bytes.{BytesRead}
 use Rattle.dory_io.proofs.Coming.{more_came, read_came, read_end, over_before, failed_came}
 use Rattle.dory_client.specs.Input.{text_limit, IsTextRead, AreTooMany}
 use Rattle.dory_client.proofs.Sealed.{length-plain_row}
 
 -- a piece more
-pub piece_came : (E : Type 0) (a b c : Option (List ℕ)) (m n k room j : ℕ) (into text : List ℕ) → Came a b m n text → j ≤ length into → Reads {E = E} b c room (Ok j) into → Gave {E = E} n k (Ok j) → Came a c m k (text ++ take j into)
+pub piece_came : (E : Type 0) (a b c : Option (List ℕ)) (m n k room j : ℕ) (into text : List ℕ) → BytesRead a b m n text → j ≤ length into → Reads {E = E} b c room (Ok j) into → Gave {E = E} n k (Ok j) → BytesRead a c m k (text ++ take j into)
 piece_came E a b c m n k room j into text before few h gave = more_came a b c m n k text (take j into) before (read_came E b c n k room j into few h gave)
 
 -- a read that failed ends the text
-pub failed_text : (E : Type 0) (a b c : Option (List ℕ)) (m n k room : ℕ) (e : E) (into text : List ℕ) → Came a b m n text → length text ≤ text_limit → Reads b c room (Err e) into → Gave {E = E} n k (Err e) → IsTextRead a c m k (Err Fault)
+pub failed_text : (E : Type 0) (a b c : Option (List ℕ)) (m n k room : ℕ) (e : E) (into text : List ℕ) → BytesRead a b m n text → length text ≤ text_limit → Reads b c room (Err e) into → Gave {E = E} n k (Err e) → IsTextRead a c m k (Err Fault)
 failed_text E a b c m n k room e into text before short h gave =
     (text ++ [], more_came a b c m n k text [] before (failed_came E b c n k room e into h gave), omega (arith, short, length-append text []))
 
 -- a read that gave nothing ends it whole
-pub ended_text : (E : Type 0) (a b c : Option (List ℕ)) (m n k room j : ℕ) (into : List ℕ) (text : Vec ℕ Global) → Came a b m n text.items → length text.items ≤ text_limit → 1 ≤ room → j ≡ 0 → j ≤ length into → Reads {E = E} b c room (Ok j) into → Gave {E = E} n k (Ok j) → IsTextRead a c m k (Ok text)
+pub ended_text : (E : Type 0) (a b c : Option (List ℕ)) (m n k room j : ℕ) (into : List ℕ) (text : Vec ℕ Global) → BytesRead a b m n text.items → length text.items ≤ text_limit → 1 ≤ room → j ≡ 0 → j ≤ length into → Reads {E = E} b c room (Ok j) into → Gave {E = E} n k (Ok j) → IsTextRead a c m k (Ok text)
 ended_text E a b c m n k room j into text before short some none few h gave = (
   text.items ++ take j into,
   piece_came E a b c m n k room j into text.items before few h gave,
@@ -31,12 +31,12 @@ ended_text E a b c m n k room j into text before short some none few h gave = (
 )
 
 -- a piece that makes it longer than a text ends it
-pub long_text : (E : Type 0) (a b c : Option (List ℕ)) (m n k room j : ℕ) (into text : List ℕ) → Came a b m n text → text_limit < length text + j → j ≤ length into → Reads {E = E} b c room (Ok j) into → Gave {E = E} n k (Ok j) → IsTextRead a c m k (Err Long)
+pub long_text : (E : Type 0) (a b c : Option (List ℕ)) (m n k room j : ℕ) (into text : List ℕ) → BytesRead a b m n text → text_limit < length text + j → j ≤ length into → Reads {E = E} b c room (Ok j) into → Gave {E = E} n k (Ok j) → IsTextRead a c m k (Err Long)
 long_text E a b c m n k room j into text before long few h gave =
     (text ++ take j into, piece_came E a b c m n k room j into text before few h gave, omega (arith, long, length-append text (take j into), length-take-le j into few))
 
 -- so does a piece for which there is no memory
-pub unkept_text : (E : Type 0) (a b c : Option (List ℕ)) (m n k room j : ℕ) (into text : List ℕ) → Came a b m n text → length text + j ≤ text_limit → j ≤ length into → Reads {E = E} b c room (Ok j) into → Gave {E = E} n k (Ok j) → IsTextRead a c m k (Err NoMemory)
+pub unkept_text : (E : Type 0) (a b c : Option (List ℕ)) (m n k room j : ℕ) (into text : List ℕ) → BytesRead a b m n text → length text + j ≤ text_limit → j ≤ length into → Reads {E = E} b c room (Ok j) into → Gave {E = E} n k (Ok j) → IsTextRead a c m k (Err NoMemory)
 unkept_text E a b c m n k room j into text before short few h gave =
     (text ++ take j into, piece_came E a b c m n k room j into text before few h gave, omega (arith, short, length-append text (take j into), length-take-le j into few))
 

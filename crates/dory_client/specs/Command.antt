@@ -15,13 +15,13 @@ use Rattle.dory_client.specs.declared.end.ClientEnd.{ClientEnd}
 use Rattle.dory_client.specs.declared.end.ClientEnd.TheVariants as ends
 use Rattle.dory_client.specs.Ends.{fault_end, input_end}
 use Rattle.dory_client.specs.Input.{IsNoText, text_limit}
-use Rattle.dory_io.specs.Bytes.{Came, IsOver}
+use Rattle.dory_io.specs.Bytes.{BytesRead, IsOver}
 use Rattle.dory_client.specs.Scene.{Input, IsUnread}
 use Rattle.dory_client.specs.Start.{command_of}
 
 -- the input was read to its end, and this is its text
 pub record WasText (input input' : Input) (text : List ℕ) : Type 0 where
-  pub came : Came input.left input'.left input.given input'.given text
+  pub came : BytesRead input.left input'.left input.given input'.given text
   pub few : length text ≤ text_limit
   pub over : IsOver input.left input'.left
 

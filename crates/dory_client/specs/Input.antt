@@ -1,7 +1,7 @@
 -- A text that is read to the end of its input.
 use Rattle.std.specs.Prelude.{ℕ, ◌≡◌, ◌≤◌, ◌<◌, ⊤, List, length, Option, Some, None, Vec, Result, Ok, Err}
 use Rattle.std.specs.declared.alloc.Global.{Global}
-use Rattle.dory_io.specs.Bytes.{Came, IsOver}
+use Rattle.dory_io.specs.Bytes.{BytesRead, IsOver}
 use Rattle.dory_client.specs.declared.input.InputEnd.{InputEnd}
 use Rattle.dory_client.specs.declared.input.InputEnd.TheVariants.{Fault, Long, NoMemory}
 
@@ -19,7 +19,7 @@ IsTextOf bytes before after (Err NoMemory) = length bytes ≤ text_limit
 
 -- what a reading of a text makes of its input
 abbrev pub IsTextRead : Option (List ℕ) → Option (List ℕ) → ℕ → ℕ → Result (Vec ℕ Global) InputEnd → Type 0
-IsTextRead before after given counted result = (bytes : List ℕ) × Came before after given counted bytes × IsTextOf bytes before after result
+IsTextRead before after given counted result = (bytes : List ℕ) × BytesRead before after given counted bytes × IsTextOf bytes before after result
 
 -- the bytes left, where they are told, are more than a text has
 abbrev pub AreTooMany : Option (List ℕ) → Type 0

@@ -13,7 +13,7 @@ Reads (Some before) (Some now) room (Err e) into = now ≡ before
 
 -- these bytes came of a source: they are the first of what was left, where it tells that, and up to the last u64 the
 -- count of bytes given rose by their number
-pub record Came (left now : Option (List ℕ)) (given counted : ℕ) (bytes : List ℕ) : Type 0 where
+pub record BytesRead (left now : Option (List ℕ)) (given counted : ℕ) (bytes : List ℕ) : Type 0 where
   pub first : Consumes left now bytes
   pub count : min counted (2 ^ 64 - 1) ≡ min (given + length bytes) (2 ^ 64 - 1)
 

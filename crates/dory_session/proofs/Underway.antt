@@ -13,7 +13,7 @@ use Rattle.dory_session.specs.declared.end.How.{How}
 use Rattle.dory_session.specs.declared.end.How.TheVariants.{Ended, Cut, Length, Kind, Body, Trailing, InputFault, OutputFault, Limit, NoMemory}
 use Rattle.dory_domain.specs.Answered.{IsAnswered}
 use Rattle.dory_session.specs.Ends.{Stops, Breaks, IsEnd}
-use Rattle.dory_io.specs.Bytes.{Came}
+use Rattle.dory_io.specs.Bytes.{BytesRead}
 use Rattle.dory_session.specs.Session.{Around, around, IsUnderway, IsSession}
 use Rattle.dory_io.proofs.Coming.{none_came, more_came}
 use Rattle.dory_session.proofs.Coming.{stops_before}
@@ -33,16 +33,16 @@ abbrev pub further : Around → Option (List ℕ) → ℕ → Around
 further a left given = around a.folders left given a.written
 
 -- what came before, and then more
-came_on : (before now : Around) (answered : ℕ) (held : List ℕ) (messages frames : List (List ℕ)) (left : Option (List ℕ)) (given : ℕ) (bytes : List ℕ) → IsUnderway before now answered held messages frames → Came now.left left now.given given bytes → Came before.left left before.given given (frames_of messages ++ (held ++ bytes))
+came_on : (before now : Around) (answered : ℕ) (held : List ℕ) (messages frames : List (List ℕ)) (left : Option (List ℕ)) (given : ℕ) (bytes : List ℕ) → IsUnderway before now answered held messages frames → BytesRead now.left left now.given given bytes → BytesRead before.left left before.given given (frames_of messages ++ (held ++ bytes))
 came_on before now answered held messages frames left given bytes u more =
-    subst (Came before.left left before.given given) (append_assoc (frames_of messages) held bytes) (more_came before.left now.left left before.given now.given given (frames_of messages ++ held) bytes u.came more)
+    subst (BytesRead before.left left before.given given) (append_assoc (frames_of messages) held bytes) (more_came before.left now.left left before.given now.given given (frames_of messages ++ held) bytes u.came more)
 
 -- a message came whole, and was answered
-pub gone_on : (before now : Around) (answered : ℕ) (held : List ℕ) (messages frames : List (List ℕ)) (folders : List Held) (left written : Option (List ℕ)) (given : ℕ) (bytes message rest frame : List ℕ) → IsUnderway before now answered held messages frames → Came now.left left now.given given bytes → IsMessage message → held ++ bytes ≡ frame_of message ++ rest → Appends now.written written frame → IsAnswered now.folders message frame folders → IsUnderway before (around folders left given written) (answered + 1) rest (messages ++ message ∷ []) (frames ++ frame ∷ [])
+pub gone_on : (before now : Around) (answered : ℕ) (held : List ℕ) (messages frames : List (List ℕ)) (folders : List Held) (left written : Option (List ℕ)) (given : ℕ) (bytes message rest frame : List ℕ) → IsUnderway before now answered held messages frames → BytesRead now.left left now.given given bytes → IsMessage message → held ++ bytes ≡ frame_of message ++ rest → Appends now.written written frame → IsAnswered now.folders message frame folders → IsUnderway before (around folders left given written) (answered + 1) rest (messages ++ message ∷ []) (frames ++ frame ∷ [])
 gone_on before now answered held messages frames folders left written given bytes message rest frame u more is parts wrote replied =
     let all : frames_of messages ++ (held ++ bytes) ≡ frames_of (messages ++ message ∷ []) ++ rest = ap (λ b. frames_of messages ++ b) parts ∙ sym (append_assoc (frames_of messages) (frame_of message) rest) ∙ ap (λ b. b ++ rest) (sym (frames_more messages message)) in
     record {
-      came = subst (Came before.left left before.given given) all (came_on before now answered held messages frames left given bytes u more);
+      came = subst (BytesRead before.left left before.given given) all (came_on before now answered held messages frames left given bytes u more);
       each = messages_more messages message u.each is;
       wrote = subst (Appends before.written written) (sym (concat_more frames frame)) (Appends-trans before.written now.written written (concat frames) frame u.wrote wrote);
       replied = one_more_answered before.folders now.folders folders messages frames message frame u.replied replied;
@@ -67,7 +67,7 @@ first_of_cut messages rest all =
     sym (ap (λ (c : WholeCut). take (length messages) c.messages) (cut_frames messages rest all) ∙ take_at messages (cut_of rest).messages (length messages) refl)
 
 -- no further message came
-pub stopped : (before now : Around) (answered : ℕ) (held : List ℕ) (messages frames : List (List ℕ)) (left : Option (List ℕ)) (given : ℕ) (bytes : List ℕ) (how : How) → IsUnderway before now answered held messages frames → Came now.left left now.given given bytes → Stops how (held ++ bytes) now.left left → IsSession before (further now left given) (record { answered = answered; how = how })
+pub stopped : (before now : Around) (answered : ℕ) (held : List ℕ) (messages frames : List (List ℕ)) (left : Option (List ℕ)) (given : ℕ) (bytes : List ℕ) (how : How) → IsUnderway before now answered held messages frames → BytesRead now.left left now.given given bytes → Stops how (held ++ bytes) now.left left → IsSession before (further now left given) (record { answered = answered; how = how })
 stopped before now answered held messages frames left given bytes how u more stops = (
   messages,
   frames,
@@ -98,7 +98,7 @@ breaks_end Limit answered rest a c mid message more part now front b = absurd b
 breaks_end NoMemory answered rest a c mid message more part now front b = inr (message, more, front, b)
 
 -- a message came whole, and wasn't answered whole
-pub broken : (before now : Around) (answered : ℕ) (held : List ℕ) (messages frames : List (List ℕ)) (folders : List Held) (left written : Option (List ℕ)) (given : ℕ) (bytes message rest part : List ℕ) (how : How) → IsUnderway before now answered held messages frames → Came now.left left now.given given bytes → IsMessage message → held ++ bytes ≡ frame_of message ++ rest → Appends now.written written part → Breaks how now.folders message part folders → IsSession before (around folders left given written) (record { answered = answered; how = how })
+pub broken : (before now : Around) (answered : ℕ) (held : List ℕ) (messages frames : List (List ℕ)) (folders : List Held) (left written : Option (List ℕ)) (given : ℕ) (bytes message rest part : List ℕ) (how : How) → IsUnderway before now answered held messages frames → BytesRead now.left left now.given given bytes → IsMessage message → held ++ bytes ≡ frame_of message ++ rest → Appends now.written written part → Breaks how now.folders message part folders → IsSession before (around folders left given written) (record { answered = answered; how = how })
 broken before now answered held messages frames folders left written given bytes message rest part how u more is parts wrote breaks = (
   messages,
   frames,

@@ -8,7 +8,7 @@ use Rattle.dory_wire.specs.Frame.{frame_of}
 use Rattle.dory_wire.specs.Cut.{IsMessage, frames_of, cut_of}
 use Rattle.dory_wire.specs.Reading.{request_of}
 use Rattle.dory_domain.specs.Held.{Held}
-use Rattle.dory_io.specs.Bytes.{Came}
+use Rattle.dory_io.specs.Bytes.{BytesRead}
 use Rattle.dory_session.specs.declared.end.How.{How}
 use Rattle.dory_session.specs.declared.end.How.TheVariants.{Ended, Cut, Length, Kind, Body, Trailing, InputFault, OutputFault, Limit, NoMemory}
 use Rattle.dory_session.specs.declared.end.SessionEnd.{SessionEnd}
@@ -39,7 +39,7 @@ around folders left given written = record { folders = folders; left = left; giv
 
 -- what a session has done when these messages are answered by these frames, and `held` came after them
 pub record IsUnderway (before now : Around) (answered : ℕ) (held : List ℕ) (messages frames : List (List ℕ)) : Type 0 where
-  pub came : Came before.left now.left before.given now.given (frames_of messages ++ held)
+  pub came : BytesRead before.left now.left before.given now.given (frames_of messages ++ held)
   pub each : AllByRecursion IsMessage messages
   pub wrote : Appends before.written now.written (concat frames)
   pub replied : AreAnswered before.folders messages frames now.folders
@@ -48,7 +48,7 @@ pub record IsUnderway (before now : Around) (answered : ℕ) (held : List ℕ) (
 -- the whole of a session: messages that were answered by frames, what came after them, a part of a frame that was written
 -- after those, and the folders between the last whole reply and the end
 pub record IsServedBy (before now : Around) (end : SessionEnd) (messages frames : List (List ℕ)) (rest part : List ℕ) (mid : List Held) : Type 0 where
-  pub came : Came before.left now.left before.given now.given (frames_of messages ++ rest)
+  pub came : BytesRead before.left now.left before.given now.given (frames_of messages ++ rest)
   pub each : AllByRecursion IsMessage messages
   -- they are the first that what came is cut into, in whatever pieces it came
   pub first : messages ≡ take (length messages) (cut_of (frames_of messages ++ rest)).messages

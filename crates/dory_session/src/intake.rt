@@ -2,7 +2,7 @@
 ghost use Rattle.std.specs.Prelude.{◌≡◌, ◌≢◌, ◌≤◌, List, ℕ, length, IsErrOf, Option, Ok, None};
 ghost use Rattle.dory_wire.specs.Cut.{front_of};
 ghost use Rattle.dory_io.specs.Causes.{HasCause};
-ghost use Rattle.dory_io.specs.Bytes.{Came, IsOver};
+ghost use Rattle.dory_io.specs.Bytes.{BytesRead, IsOver};
 ghost use Rattle.dory_session.specs.Ends.{Stops};
 ghost use Rattle.dory_session.specs.Session.{IsNext, IsMore};
 
@@ -21,7 +21,7 @@ fn read_on<S: Source>(
     requires partial { front_of framer.old ≡ Ok None }
     requires some { 1 ≤ length room.old }
     requires few { length room.old ≤ 65536 }
-    ensures more { (came : List ℕ) × Came (S.left input.old) (S.left input.new) (S.given input.old) (S.given input.new) came × IsMore framer.old framer.new came (S.left input.old) (S.left input.new) result }
+    ensures more { (came : List ℕ) × BytesRead (S.left input.old) (S.left input.new) (S.given input.old) (S.given input.new) came × IsMore framer.old framer.new came (S.left input.old) (S.left input.new) result }
     ensures cause { HasCause (S.faults input.old) (S.faults input.new) (IsErrOf result How.InputFault) }
 {
     let n = match input.read(room) {
@@ -58,7 +58,7 @@ pub fn next_message<S: Source>(
 ) -> Result<Vec<u8>, How>
     requires some { 1 ≤ length room.old }
     requires few { length room.old ≤ 65536 }
-    ensures next { (came : List ℕ) × Came (S.left input.old) (S.left input.new) (S.given input.old) (S.given input.new) came × IsNext framer.old framer.new came (S.left input.old) (S.left input.new) result }
+    ensures next { (came : List ℕ) × BytesRead (S.left input.old) (S.left input.new) (S.given input.old) (S.given input.new) came × IsNext framer.old framer.new came (S.left input.old) (S.left input.new) result }
     ensures cause { HasCause (S.faults input.old) (S.faults input.new) (IsErrOf result How.InputFault) }
 {
     loop {
