@@ -1,6 +1,7 @@
 //! Posts at an honest follower and at a lead that says what it likes.
 
-use super::members::{ends, hand_over, kept, posting, save};
+use super::kept;
+use super::members::{ends, hand_over, posting, save};
 use super::served::{answer, config};
 use dory_base::Side;
 use dory_domain::DomainCore;

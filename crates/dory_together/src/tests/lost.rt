@@ -1,7 +1,8 @@
 //! A post whose Order is carried and whose reply is lost: another member's post repairs the follower, and then the first
 //! post is resumed.
 
-use super::members::{begun, ends, hand_over, kept, posting};
+use super::kept;
+use super::members::{begun, ends, hand_over, posting};
 use super::served::{Domains, FOLLOW, ORDER, SAVE, STAGE, config, does, ends_by, replied};
 use dory_base::Side;
 use dory_domain::DomainCore;

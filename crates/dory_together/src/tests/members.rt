@@ -3,43 +3,13 @@ ghost use Rattle.std.specs.Prelude.{◌≡◌, ◌≤◌};
 ghost use Rattle.dory_state.specs.Spelling.{IsKeptState};
 ghost use Rattle.dory_member.specs.Within.{FitsCommand};
 
-use dory_base::{Bits, DocId, FolderId, MemberId, Shape, Word};
+use super::{MASTER, shape};
+use dory_base::{Bits, DocId, Word};
 use dory_bloom::plain_row;
 use dory_hmac::FolderKeys;
 use dory_member::{Command, Member, Next, outcome_text};
 use dory_state::KeptState;
 use std::alloc::Global;
-
-const MASTER: [u8; 32] = [0; 32];
-
-/// 256 columns, and two positions for a word.
-pub fn shape() -> Shape
-    ensures { result ≡ record { depth = 8; probes = 2 } }
-{
-    match Shape::new(8, 2) {
-        Some(shape) => shape,
-        None => unreachable!(),
-    }
-}
-
-/// A state with nothing seen and nothing pending.
-pub fn kept(member: u32, next_serial: u64) -> KeptState
-    requires member { member ≤ 63 }
-    requires some { 1 ≤ next_serial }
-    ensures state { IsKeptState result }
-    ensures shape { result.shape ≡ record { depth = 8; probes = 2 } }
-{
-    KeptState {
-        folder: FolderId(1),
-        member: MemberId(member),
-        shape: shape(),
-        master: MASTER,
-        next_serial,
-        seen: 0,
-        used: 0,
-        pending: None,
-    }
-}
 
 /// A member at a command, with a seed of zeros.
 pub fn begun(alloc: Global, state: KeptState, command: Command) -> Option<Member>

@@ -1,6 +1,7 @@
 //! Commands whose replies are checked in pairs, and a removal, at two honest domains.
 
-use super::members::{begun, ends, kept, posting, removing, searching};
+use super::kept;
+use super::members::{begun, ends, posting, removing, searching};
 use super::served::{Domains, FOLLOW, LATEST, ORDER, SAVE, SEARCH, STAGE, config, ends_by};
 use dory_base::Side;
 use dory_domain::DomainCore;

@@ -1,6 +1,7 @@
 //! The two domains of a folder, and a member's turns at them.
 
-use super::members::{hand_over, save, shape};
+use super::members::{hand_over, save};
+use super::shape;
 use dory_base::{FolderId, Side};
 use dory_domain::{DomainCore, FolderConfig};
 use dory_member::{Member, Next};
