@@ -2,8 +2,13 @@
 
 mod shell;
 
-use crate::{StdSink, StdSource, TcpBinder, TcpLink, TcpPort};
-use dory_io::{Address, Binder, Failed, Port, Sink, Source, write_all};
+use crate::{ServeEnd, StdSink, StdSource, TcpBinder, TcpLink, TcpPort, serve_port};
+use dory_base::{FolderId, NoMemory, Shape, Side};
+use dory_domain::{DomainCore, FolderConfig};
+use dory_io::{
+    Address, Binder, Failed, MemPort, Port, Sink, Source, VecSink, VecSource, write_all,
+};
+use dory_kernel::{RowKernel, plain_parity};
 use dory_link::{Link, LinkError};
 use std::alloc::Global;
 use std::io::ErrorKind;
@@ -15,6 +20,17 @@ const ANY: Address = Address {
     ip: [127, 0, 0, 1],
     port: 0,
 };
+
+// To stage a removal, and to order it, each in a frame.
+const STAGE: [u8; 42] = [
+    0, 0, 0, 0x26, 4, 0, 0, 0, 0, 0, 0, 0, 0, 0, 0, 0, 2, 0, 0, 0, 0, 0, 0, 0, 1, 0, 0, 0, 0, 0, 0,
+    0, 0, 0, 0, 0, 2, 0, 0, 0, 7, 2,
+];
+
+const ORDER: [u8; 37] = [
+    0, 0, 0, 0x21, 5, 0, 0, 0, 0, 0, 0, 0, 0, 0, 0, 0, 2, 0, 0, 0, 1, 0, 0, 0, 1, 0, 0, 0, 0, 0, 0,
+    0, 0, 0, 0, 0, 2,
+];
 
 /// A port at a free address, and the address as it is written.
 fn port_anywhere<R: Net<Listener = TcpListener, Stream = TcpStream>>(
@@ -67,6 +83,45 @@ fn what_is_no_address_of_ipv4_fails_each_ask(rt: HostRuntime) -> Result<(), Fail
     let alloc = rt.alloc();
     let mut nowhere = TcpLink::new(&rt, alloc, "localhost:1".to_string(alloc)?);
     assert!(rt; matches!(nowhere.ask(alloc, b"\0\0\0\x01x"), Err(LinkError::Failed)));
+    Ok(())
+}
+
+/// A connection in memory of which these bytes come.
+fn connection(alloc: Global, bytes: &[u8]) -> Result<(VecSource, VecSink), NoMemory> {
+    let source = VecSource::new(bytes.to_vec(alloc)?, Vec::new(alloc));
+    let sink = VecSink::new(alloc, 64, Vec::new(alloc))?;
+    Ok((source, sink))
+}
+
+#[test]
+fn each_connection_that_a_port_gives_is_served(rt: HostRuntime) -> Result<(), NoMemory> {
+    let alloc = rt.alloc();
+    let staged = connection(alloc, &STAGE)?;
+    let ordered = connection(alloc, &ORDER)?;
+    let mut port = MemPort::new(vec![in alloc; staged, ordered]?, Vec::new(alloc));
+    let configs = [FolderConfig {
+        folder: FolderId(1),
+        shape: Shape::new(8, 2).expect(&rt, "a shape in range"),
+        retained: 2,
+    }];
+    let kernel = RowKernel::new(plain_parity);
+    let mut core = DomainCore::new(alloc, Side::Lead, &configs, kernel).expect(
+        &rt,
+        "folders in range",
+    );
+    let first = serve_port(&rt, alloc, &mut core, &mut port, Some(1));
+    assert_eq!(rt;
+        (first, core.length(FolderId(1))),
+        (ServeEnd::Sessions, Some(0))
+    );
+    // What the second connection orders was staged by the first.
+    let second = serve_port(&rt, alloc, &mut core, &mut port, Some(1));
+    assert_eq!(rt;
+        (second, core.length(FolderId(1))),
+        (ServeEnd::Sessions, Some(1))
+    );
+    let third = serve_port(&rt, alloc, &mut core, &mut port, None);
+    assert_eq!(rt; third, ServeEnd::AcceptFault);
     Ok(())
 }
 
