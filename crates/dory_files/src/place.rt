@@ -1,7 +1,7 @@
 //! Where a state's file is.
 
 use std::alloc::Global;
-use std::fs::File;
+use std::fs::{File, Metadata};
 use std::io::{Error, ErrorKind};
 use std::rt::Files;
 use std::{fs, io};
@@ -19,18 +19,28 @@ pub enum Place {
 }
 
 /// What stands at a path, links followed. A link to nothing is an error, since a file that is put in its place would take
-/// the link away.
+/// the link away, and so is what is no regular file or has more than 65,536 bytes.
 pub fn place_of<R: Files<File = File>>(rt: &R, alloc: Global, path: &str) -> io::Result<Place> {
     match fs::symlink_metadata(rt, path) {
         Ok(_) => {}
         Err(e) if e.kind() == ErrorKind::NotFound => return Ok(Place::Empty),
         Err(e) => return Err(e),
     }
-    let found = fs::canonicalize(&(rt, alloc), path)?;
-    Ok(Place::Found(found.into_string()))
+    let found = fs::canonicalize(&(rt, alloc), path)?.into_string();
+    fits(&fs::metadata(rt, found.as_str())?)?;
+    Ok(Place::Found(found))
 }
 
-/// The bytes of a state's file, or that there is none. What is no regular file, or has more than 65,536 bytes, isn't read.
+/// That what was found is a regular file, and no larger than what is read as a state.
+fn fits(found: &Metadata) -> io::Result<()> {
+    if found.is_file() && found.len() <= LIMIT {
+        Ok(())
+    } else {
+        Err(Error::from(ErrorKind::InvalidData))
+    }
+}
+
+/// The bytes of a state's file, or that there is none.
 pub fn state_bytes<R: Files<File = File>>(
     rt: &R,
     alloc: Global,
@@ -41,8 +51,6 @@ pub fn state_bytes<R: Files<File = File>>(
         Err(e) if e.kind() == ErrorKind::NotFound => return Ok(None),
         Err(e) => return Err(e),
     };
-    if !found.is_file() || found.len() > LIMIT {
-        return Err(Error::from(ErrorKind::InvalidData));
-    }
+    fits(&found)?;
     Ok(Some(fs::read(&(rt, alloc), path)?))
 }

@@ -89,6 +89,8 @@ fn what_is_no_state_is_not_read(rt: HostRuntime) -> Result<(), Fail> {
         let mut keeper = FileKeeper::new(&rt, alloc, name.to_string(alloc)?);
         assert!(rt; matches!(keeper.load(alloc), Err(KeepError::Failed)));
     }
+    // Nor is it locked.
+    assert!(rt; fs::open(&rt, "folder.lock").is_err() && fs::open(&rt, "large.lock").is_err());
     let mut keeper = FileKeeper::new(&rt, alloc, "largest".to_string(alloc)?);
     assert!(rt; matches!(keeper.load(alloc), Ok(Some(bytes)) if bytes.len() == 65_536));
     Ok(())
