@@ -1,0 +1,4 @@
+pub mod Asks
+pub mod Keeping
+pub mod Turns
+pub mod Finishing

@@ -1,0 +1,9 @@
+pub mod Scene
+pub mod Asked
+pub mod Course
+pub mod Ends
+pub mod Way
+pub mod Kept
+pub mod Driven
+pub mod Member
+pub mod MemberLaws
