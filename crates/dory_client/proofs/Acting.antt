@@ -18,7 +18,8 @@ use Rattle.dory_client.specs.Ends.{IsKeeperEnd, fault_end}
 use Rattle.dory_client.specs.CommandEnds.{CommandEnds}
 use Rattle.dory_client.specs.KeptAfter.{IsUndone}
 use Rattle.dory_client.specs.Run.{Acts, NotMade, Refused, NoRoom, Began, ActsIn, Loads, Unloaded, Loaded, StartsIn}
-use Rattle.dory_client.specs.Scene.{Input, IsUntouched, Scene}
+use Rattle.dory_client.specs.Scene.{Input}
+use Rattle.dory_drive.specs.Scene.{IsUntouched, Scene}
 use Rattle.dory_client.proofs.Done.{not_fault, not_keeper, not_made}
 
 -- the state wasn't read, since the keeper failed or memory ran out, or it is in range and the command acts in it

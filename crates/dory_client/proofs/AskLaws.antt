@@ -19,15 +19,17 @@ use Rattle.dory_client.specs.declared.start.Start.{Start}
 use Rattle.dory_client.specs.declared.start.Start.TheVariants.{Init, Act}
 use Rattle.dory_client.specs.declared.end.ClientEnd.{ClientEnd}
 use Rattle.dory_client.specs.declared.end.ClientEnd.TheVariants as ends
-use Rattle.dory_client.specs.Asked.{AskedFrames, GrewBy, request_frame, spoke}
+use Rattle.dory_drive.specs.Asked.{AskedFrames, GrewBy, request_frame, spoke}
 use Rattle.dory_client.specs.CallEffects.{IsBegun}
 use Rattle.dory_client.specs.Ends.{AskFailsAs, IsKeeperEnd}
-use Rattle.dory_client.specs.CommandEnds.{CommandEnds, FirstSaveFailed, AskFailed, RanOut, CommandFailed, LastSaveFailed, CommandPrinted, scene_links}
+use Rattle.dory_client.specs.CommandEnds.{CommandEnds, FirstSaveFailed, AskFailed, RanOut, CommandFailed, LastSaveFailed, CommandPrinted}
+use Rattle.dory_drive.specs.Way.{scene_links, ExchangedOver, Links, UnansweredOver}
 use Rattle.dory_client.specs.CallAsks.{AsksInAll, Nothing, InTurn, Asks, HasAsked, CallAsks, LineAsks, StartAsks, heard_by, put_to}
 use Rattle.dory_client.specs.Run.{IsRun, Loads, Unloaded, Loaded, Runs, StartsIn}
-use Rattle.dory_client.specs.Scene.{AskedNothing, Input, Scene}
+use Rattle.dory_client.specs.Scene.{Input}
+use Rattle.dory_drive.specs.Scene.{AskedNothing, Scene}
 use Rattle.dory_client.specs.Start.{start_of}
-use Rattle.dory_client.specs.Way.{ExchangedOver, Links, Interrupted, RunExchanged, UnansweredOver, ExchangedInTurn}
+use Rattle.dory_client.specs.Way.{Interrupted, RunExchanged, ExchangedInTurn}
 use Rattle.dory_client.proofs.Acting.{BeginsOrNot, begins_or_not}
 
 -- ---- exchanges that grow

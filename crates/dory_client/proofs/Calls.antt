@@ -1,5 +1,5 @@
 -- How a call is made of its parts.
-use Rattle.std.proofs.Common.{◌≡◌, ℕ, Bool, true, false, List, [], Option, None, Some, Result, Ok, Err, ap, sym, ◌∙◌, subst, inl, inr}
+use Rattle.std.proofs.Common.{◌≡◌, ℕ, Bool, true, false, List, Option, None, Some, Result, Ok, Err, ap, sym, ◌∙◌, subst, inl, inr}
 use Rattle.dory_io.specs.Bytes.{Stays, Tells}
 use Rattle.dory_link.specs.Told.{Heard}
 use Rattle.dory_cli.specs.declared.line.Line.{Line}
@@ -21,12 +21,14 @@ use Rattle.dory_client.specs.declared.end.ClientEnd.{ClientEnd}
 use Rattle.dory_client.specs.Command.{HasCommand, HasText, NoCommand}
 use Rattle.dory_client.specs.CommandEnds.{CommandEnds, FirstSaveFailed, AskFailed, RanOut, CommandFailed, LastSaveFailed, CommandPrinted, CommandEndsFrom, IsBegun, NotBegun}
 use Rattle.dory_client.specs.CommandEnds as goes
-use Rattle.dory_client.specs.Kept.{KeepsIf, KeepsNow, OldOrNew}
+use Rattle.dory_drive.specs.Kept.{KeepsIf, KeepsNow, OldOrNew}
 use Rattle.dory_client.specs.Run.{Acts, NotMade, Refused, NoRoom, Began, ActsIn, MayAct, StateBegins, Loads, Runs}
 use Rattle.dory_client.specs.Run as run
-use Rattle.dory_client.specs.Scene.{Input, IsUnread, IsUntouched, Scene, scene}
+use Rattle.dory_client.specs.Scene.{Input, IsUnread}
+use Rattle.dory_drive.specs.Scene.{AskedNothing, Faults, IsUntouched, OnlyKeeper, Scene, scene}
 use Rattle.dory_client.specs.Start.{start_of, command_of}
-use Rattle.dory_client.proofs.Finish.{stays_twice, untouched}
+use Rattle.dory_drive.proofs.Keeping.{stays_same, stays_twice}
+use Rattle.dory_client.proofs.Finish.{untouched}
 
 abbrev Told : Type 0
 Told = Option (Option (List ℕ))
@@ -52,35 +54,54 @@ tells_from None b x same told = tt
 tells_from (Some a) None x same told = absurd same
 tells_from (Some a) (Some b) x same told = sym same ∙ told
 
-untouched_from : (a b : Told) (lead follow : Heard) (written : Option (List ℕ)) (z : Scene) → Stays a b → IsUntouched (scene b lead follow written) z → IsUntouched (scene a lead follow written) z
-untouched_from a b lead follow written z same u = record { asked = u.asked; kept = stays_twice a b z.kept same u.kept; wrote = u.wrote }
+untouched_from : (a b : Told) (lead follow : Heard) (written : Option (List ℕ)) (fa fb : Faults) (z : Scene) → Stays a b → IsUntouched (scene b lead follow written fb) z → IsUntouched (scene a lead follow written fa) z
+untouched_from a b lead follow written fa fb z same u = record { asked = u.asked; kept = stays_twice a b z.kept same u.kept; wrote = u.wrote }
 
-goes_earlier : (r : Run) (a b : Told) (lead follow : Heard) (written : Option (List ℕ)) (z : Scene) (end : ClientEnd) → Stays a b → CommandEnds r (scene b lead follow written) z end → CommandEnds r (scene a lead follow written) z end
-goes_earlier r a b lead follow written z end same (FirstSaveFailed asked kept wrote is) = FirstSaveFailed asked (either_from a b z.kept r.kept same kept) wrote is
-goes_earlier r a b lead follow written z end same (AskFailed broke kept wrote) = AskFailed broke (if_from (saves_first r.phase) a b z.kept r.kept same kept) wrote
-goes_earlier r a b lead follow written z end same (RanOut frames went kept wrote is) = RanOut frames went (if_from (saves_first r.phase) a b z.kept r.kept same kept) wrote is
-goes_earlier r a b lead follow written z end same (CommandFailed frames f went ended kept wrote is) = CommandFailed frames f went ended (if_from (saves_first r.phase) a b z.kept r.kept same kept) wrote is
-goes_earlier r a b lead follow written z end same (LastSaveFailed frames o went ended keeps (inl now) wrote is) = LastSaveFailed frames o went ended keeps (inl (now_from a b z.kept r.kept same now)) wrote is
-goes_earlier r a b lead follow written z end same (LastSaveFailed frames o went ended keeps (inr now) wrote is) = LastSaveFailed frames o went ended keeps (inr (now_from a b z.kept (run_after r frames).kept same now)) wrote is
-goes_earlier r a b lead follow written z end same (CommandPrinted frames o went ended good kept says) = CommandPrinted frames o went ended good (if_from (saves_first r.phase) a b z.kept (run_after r frames).kept same kept) says
+goes_earlier : (r : Run) (a b : Told) (lead follow : Heard) (written : Option (List ℕ)) (fa fb : Faults) (z : Scene) (end : ClientEnd) → Stays a b → CommandEnds r (scene b lead follow written fb) z end → CommandEnds r (scene a lead follow written fa) z end
+goes_earlier r a b lead follow written fa fb z end same (FirstSaveFailed asked kept wrote is) = FirstSaveFailed asked (either_from a b z.kept r.kept same kept) wrote is
+goes_earlier r a b lead follow written fa fb z end same (AskFailed broke kept wrote) = AskFailed broke (if_from (saves_first r.phase) a b z.kept r.kept same kept) wrote
+goes_earlier r a b lead follow written fa fb z end same (RanOut frames went kept wrote is) = RanOut frames went (if_from (saves_first r.phase) a b z.kept r.kept same kept) wrote is
+goes_earlier r a b lead follow written fa fb z end same (CommandFailed frames f went ended kept wrote is) = CommandFailed frames f went ended (if_from (saves_first r.phase) a b z.kept r.kept same kept) wrote is
+goes_earlier r a b lead follow written fa fb z end same (LastSaveFailed frames o went ended keeps (inl now) wrote is) = LastSaveFailed frames o went ended keeps (inl (now_from a b z.kept r.kept same now)) wrote is
+goes_earlier r a b lead follow written fa fb z end same (LastSaveFailed frames o went ended keeps (inr now) wrote is) = LastSaveFailed frames o went ended keeps (inr (now_from a b z.kept (run_after r frames).kept same now)) wrote is
+goes_earlier r a b lead follow written fa fb z end same (CommandPrinted frames o went ended good kept says) = CommandPrinted frames o went ended good (if_from (saves_first r.phase) a b z.kept (run_after r frames).kept same kept) says
 
-acts_earlier : (k : KeptState) (seed : List ℕ) (t : Todo) (i i' : Input) (a b : Told) (lead follow : Heard) (written : Option (List ℕ)) (z : Scene) (end : ClientEnd) → Stays a b → Acts k seed t i i' (scene b lead follow written) z end → Acts k seed t i i' (scene a lead follow written) z end
-acts_earlier k seed t i i' a b lead follow written z end same (NotMade none u) = NotMade none (untouched_from a b lead follow written z same u)
-acts_earlier k seed t i i' a b lead follow written z end same (Refused text f has e u is) = Refused text f has e (untouched_from a b lead follow written z same u) is
-acts_earlier k seed t i i' a b lead follow written z end same (NoRoom text has u is) = NoRoom text has (untouched_from a b lead follow written z same u) is
-acts_earlier k seed t i i' a b lead follow written z end same (Began text r has begins goes) = Began text r has begins (goes_earlier r a b lead follow written z end same goes)
+acts_earlier : (k : KeptState) (seed : List ℕ) (t : Todo) (i i' : Input) (a b : Told) (lead follow : Heard) (written : Option (List ℕ)) (fa fb : Faults) (z : Scene) (end : ClientEnd) → Stays a b → Acts k seed t i i' (scene b lead follow written fb) z end → Acts k seed t i i' (scene a lead follow written fa) z end
+acts_earlier k seed t i i' a b lead follow written fa fb z end same (NotMade none u) = NotMade none (untouched_from a b lead follow written fa fb z same u)
+acts_earlier k seed t i i' a b lead follow written fa fb z end same (Refused text f has e u is) = Refused text f has e (untouched_from a b lead follow written fa fb z same u) is
+acts_earlier k seed t i i' a b lead follow written fa fb z end same (NoRoom text has u is) = NoRoom text has (untouched_from a b lead follow written fa fb z same u) is
+acts_earlier k seed t i i' a b lead follow written fa fb z end same (Began text r has begins goes) = Began text r has begins (goes_earlier r a b lead follow written fa fb z end same goes)
 
-acts_in_earlier : (r : Result KeptState StateFault) (seed : List ℕ) (t : Todo) (i i' : Input) (a b : Told) (lead follow : Heard) (written : Option (List ℕ)) (z : Scene) (end : ClientEnd) → Stays a b → ActsIn r seed t i i' (scene b lead follow written) z end → ActsIn r seed t i i' (scene a lead follow written) z end
-acts_in_earlier (Ok k) seed t i i' a b lead follow written z end same (range, acts) = (range, acts_earlier k seed t i i' a b lead follow written z end same acts)
-acts_in_earlier (Err f) seed t i i' a b lead follow written z end same ((unread, u), is) = ((unread, untouched_from a b lead follow written z same u), is)
+acts_in_earlier : (r : Result KeptState StateFault) (seed : List ℕ) (t : Todo) (i i' : Input) (a b : Told) (lead follow : Heard) (written : Option (List ℕ)) (fa fb : Faults) (z : Scene) (end : ClientEnd) → Stays a b → ActsIn r seed t i i' (scene b lead follow written fb) z end → ActsIn r seed t i i' (scene a lead follow written fa) z end
+acts_in_earlier (Ok k) seed t i i' a b lead follow written fa fb z end same (range, acts) = (range, acts_earlier k seed t i i' a b lead follow written fa fb z end same acts)
+acts_in_earlier (Err f) seed t i i' a b lead follow written fa fb z end same ((unread, u), is) = ((unread, untouched_from a b lead follow written fa fb z same u), is)
 
-pub may_earlier : (r : Result KeptState StateFault) (seed : List ℕ) (t : Todo) (i i' : Input) (a b : Told) (lead follow : Heard) (written : Option (List ℕ)) (z : Scene) (end : ClientEnd) → Stays a b → MayAct r seed t i i' (scene b lead follow written) z end → MayAct r seed t i i' (scene a lead follow written) z end
-may_earlier r seed t i i' a b lead follow written z end same (inl ((unread, u), is)) = inl ((unread, untouched_from a b lead follow written z same u), is)
-may_earlier r seed t i i' a b lead follow written z end same (inr acts) = inr (acts_in_earlier r seed t i i' a b lead follow written z end same acts)
+pub may_earlier : (r : Result KeptState StateFault) (seed : List ℕ) (t : Todo) (i i' : Input) (a b : Told) (lead follow : Heard) (written : Option (List ℕ)) (fa fb : Faults) (z : Scene) (end : ClientEnd) → Stays a b → MayAct r seed t i i' (scene b lead follow written fb) z end → MayAct r seed t i i' (scene a lead follow written fa) z end
+may_earlier r seed t i i' a b lead follow written fa fb z end same (inl ((unread, u), is)) = inl ((unread, untouched_from a b lead follow written fa fb z same u), is)
+may_earlier r seed t i i' a b lead follow written fa fb z end same (inr acts) = inr (acts_in_earlier r seed t i i' a b lead follow written fa fb z end same acts)
 
 pub begins_earlier : (first : KeptState) (a b c : Told) (written written' : Option (List ℕ)) (end : ClientEnd) → Stays a b → StateBegins first b c written written' end → StateBegins first a c written written' end
 begins_earlier first a b c written written' end same (run.Unsaved kept stays is) = run.Unsaved (either_from a b c first same kept) stays is
 begins_earlier first a b c written written' end same (run.Saved kept says) = run.Saved (now_from a b c first same kept) says
+
+-- ---- after a load
+
+pub untouched_by_load : (a b : Scene) → OnlyKeeper a b → Stays a.kept b.kept → IsUntouched a b
+untouched_by_load a b only same = record {
+  asked = (ap (λ (s : Scene). s.lead) only, ap (λ (s : Scene). s.follow) only);
+  kept = same;
+  wrote = subst (λ (w : Option (List ℕ)). Stays a.written w) (sym (ap (λ (s : Scene). s.written) only)) (stays_same a.written);
+}
+
+pub may_after_load : (r : Result KeptState StateFault) (seed : List ℕ) (t : Todo) (i i' : Input) (a b z : Scene) (end : ClientEnd) → OnlyKeeper a b → Stays a.kept b.kept → MayAct r seed t i i' b z end → MayAct r seed t i i' a z end
+may_after_load r seed t i i' a b z end only same acts =
+    may_earlier r seed t i i' a.kept b.kept a.lead a.follow a.written a.faults (record a.faults { keeper = b.faults.keeper }) z end same (subst (λ (s : Scene). MayAct r seed t i i' s z end) only acts)
+
+pub begins_after_load : (first : KeptState) (a b z : Scene) (end : ClientEnd) → OnlyKeeper a b → Stays a.kept b.kept → AskedNothing b z → StateBegins first b.kept z.kept b.written z.written end → AskedNothing a z × StateBegins first a.kept z.kept a.written z.written end
+begins_after_load first a b z end only same asked begins = (
+  subst (λ (s : Scene). AskedNothing s z) only asked,
+  begins_earlier first a.kept b.kept z.kept a.written z.written end same (subst (λ (w : Option (List ℕ)). StateBegins first b.kept z.kept w z.written end) (ap (λ (s : Scene). s.written) only) begins),
+)
 
 -- ---- a command in a state that was read
 

@@ -15,7 +15,7 @@ use Rattle.dory_wire.specs.declared.message.Reply.{Reply}
 use Rattle.dory_wire.specs.Reading.{reply_in}
 use Rattle.dory_wire.specs.StepReply.{Steps, commit_answer}
 use Rattle.dory_link.specs.Told.{Told, IsReplyTo, IsFolderReply, StepsOnce}
-use Rattle.dory_client.specs.Asked.{HasReply}
+use Rattle.dory_drive.specs.Asked.{HasReply}
 use Rattle.std.specs.Prelude.{⊤}
 use Rattle.std.proofs.lemmas.Bool.{ltb-false}
 use Rattle.dory_base.specs.Step.{State, ids_of, log_of, after_maybe, event_of_plan, state_appended}

@@ -23,7 +23,7 @@ use Rattle.dory_state.specs.declared.fault.StateFault.{StateFault}
 use Rattle.dory_member.specs.Course.{folder_keys, lesser}
 use Rattle.dory_client.specs.Sought.{ask_of, step_request, sought_columns, searching, sought_of}
 use Rattle.dory_state.specs.Spelling.{IsKeptState}
-use Rattle.dory_client.specs.Asked.{Exchanged}
+use Rattle.dory_drive.specs.Asked.{Exchanged}
 use Rattle.dory_client.proofs.Course.{Lengths, Failed}
 use Rattle.dory_client.specs.Complete.{TellsFolder, TellsSeen, Agree, IsDomainRefusal}
 use Rattle.dory_client.proofs.Replied.{longer, same_version, grown_told, read_by}

@@ -1,5 +1,5 @@
 -- What comes from a told domain confirms what was asked, or is a refusal.
-use Rattle.std.proofs.Common.{◌≡◌, ℕ, ◌≤◌, Bool, true, cond, List, Option, None, Some, Result, Ok, Err, refl, ap, sym, ◌∙◌, subst, inl, inr, arith}
+use Rattle.std.proofs.Common.{◌≡◌, ℕ, ◌≤◌, Bool, true, cond, List, Some, Result, Ok, Err, refl, ap, sym, ◌∙◌, subst, inl, inr}
 use Rattle.std.specs.Prelude.{⊤, ◌==◌, ◌&&◌}
 use Rattle.std.proofs.lemmas.Bool.{eq-eqb}
 use Rattle.dory_base.specs.declared.ids.AskId.{AskId}
@@ -39,7 +39,7 @@ use Rattle.dory_member.specs.Course.{name, ask_request, single_of, to, want_of}
 use Rattle.dory_member.specs.Single.{allowed, checked, confirmed, mark, refused, said, wanted}
 use Rattle.dory_base.specs.declared.entry.Entry.{Entry}
 use Rattle.dory_client.specs.Complete.{TellsFolder}
-use Rattle.dory_client.specs.Way.{ExchangedOver, Links}
+use Rattle.dory_drive.specs.Way.{ExchangedOver, Links}
 use Rattle.dory_client.proofs.Committed.{follower}
 use Rattle.dory_client.proofs.Replied.{IsReplied, grown_told, replied_by}
 

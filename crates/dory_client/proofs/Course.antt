@@ -11,7 +11,7 @@ use Rattle.dory_verify.specs.Listing.{Lists}
 use Rattle.dory_state.specs.declared.kept.KeptState.{KeptState}
 use Rattle.dory_member.specs.Course.{lesser}
 use Rattle.dory_client.specs.Sought.{Sought, ask_of, step_request, searching}
-use Rattle.dory_client.specs.Asked.{Exchanged}
+use Rattle.dory_drive.specs.Asked.{Exchanged}
 
 -- two requests were asked, the lead's first, and a check of what came gave this
 pub record Pair {Y : Type 0} (lead lead' follow follow' : Heard) (first second : Request) (check : List ℕ → List ℕ → Result Y CheckFault) (gave : Result Y CheckFault) : Type 0 where

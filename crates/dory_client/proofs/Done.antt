@@ -23,8 +23,10 @@ use Rattle.dory_client.specs.declared.input.InputEnd.TheVariants as input
 use Rattle.dory_client.specs.CommandEnds.{CommandEnds, FirstSaveFailed, AskFailed, RanOut, CommandFailed, LastSaveFailed, CommandPrinted, IsGood, Prints, Wrote, WrotePart, Untold, ExchangedBetween, outcome_line}
 use Rattle.dory_client.specs.Kept.{KeepsOf}
 use Rattle.dory_client.specs.Run.{Acts, NotMade, Refused, NoRoom, Began, ActsIn, StartsIn, Loads, Unloaded, Loaded}
-use Rattle.dory_client.specs.Scene.{Input, Scene}
-use Rattle.dory_client.specs.Way.{Links, Interrupted}
+use Rattle.dory_client.specs.Scene.{Input}
+use Rattle.dory_drive.specs.Scene.{Scene}
+use Rattle.dory_client.specs.Way.{Interrupted}
+use Rattle.dory_drive.specs.Way.{Links}
 
 -- ---- ends that aren't `Done`
 

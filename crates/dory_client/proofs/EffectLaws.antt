@@ -31,13 +31,15 @@ use Rattle.dory_client.specs.declared.start.Start.{Start}
 use Rattle.dory_client.specs.declared.start.Start.TheVariants.{Init, Act}
 use Rattle.dory_client.specs.declared.end.ClientEnd.TheVariants as ends
 use Rattle.dory_client.specs.CallEffects.{ToldAt, Confirms, SeenOf, SeenBy, IsDone, StartEffects, LineEffects, CallEffects}
-use Rattle.dory_client.specs.CommandEnds.{IsGood, outcome_line, scene_links}
+use Rattle.dory_client.specs.CommandEnds.{IsGood, outcome_line}
+use Rattle.dory_drive.specs.Way.{scene_links, Links}
 use Rattle.dory_client.specs.Run.{IsRun, Loads, Runs}
-use Rattle.dory_client.specs.Scene.{Input, Scene}
+use Rattle.dory_client.specs.Scene.{Input}
+use Rattle.dory_drive.specs.Scene.{Scene}
 use Rattle.dory_client.specs.Headline.{Accepts, IsAccepted, IsRight, IsRightBy, IsRightOf, SidePart}
 use Rattle.dory_client.specs.Sought.{sought_of}
 use Rattle.dory_client.specs.Start.{command_of, start_of}
-use Rattle.dory_client.specs.Way.{Links, ExchangedInTurn, RunExchanged}
+use Rattle.dory_client.specs.Way.{ExchangedInTurn, RunExchanged}
 use Rattle.dory_client.proofs.Done.{CameWell, did}
 use Rattle.dory_client.proofs.Beginnings.{IsBeginning, Kind, Updates, Searches, Measures, Rests, beginning, search_begins}
 use Rattle.dory_client.proofs.Course.{Answered}

@@ -17,7 +17,7 @@ use Rattle.dory_member.specs.declared.outcome.Fault.TheVariants as fault
 use Rattle.dory_member.specs.declared.outcome.Outcome.{Outcome}
 use Rattle.dory_member.specs.declared.outcome.Outcome.TheVariants.{Posted, Removed, Accepted, NothingPending, Lengths as LengthsAre, Rotated, Failed}
 use Rattle.dory_member.specs.declared.phase.Run.{Run}
-use Rattle.dory_member.specs.Course.{Ask, asks, begun, ended_of, if_finished, refused_if, resumed, run_after}
+use Rattle.dory_member.specs.Course.{asks, begun, ended_of, if_finished, refused_if, resumed, run_after}
 use Rattle.dory_member.specs.Draw.{is_last_epoch, is_last_serial, is_used_up}
 use Rattle.dory_client.specs.declared.input.InputEnd.{InputEnd}
 use Rattle.dory_client.specs.declared.input.InputEnd.TheVariants as input
@@ -30,13 +30,15 @@ use Rattle.dory_client.specs.declared.end.ClientEnd.TheVariants as ends
 use Rattle.dory_client.specs.Command.{HasNoText, NoCommand}
 use Rattle.dory_client.specs.Ends.{AskFailsAs, IsKeeperEnd, fault_end, input_end}
 use Rattle.dory_client.specs.Finishes.{AreFew, BothTell, EndsFine, HasShort, IsReady, IsUpToDate, SetsOut}
-use Rattle.dory_client.specs.CommandEnds.{CommandEnds, FirstSaveFailed, AskFailed, RanOut, CommandFailed, LastSaveFailed, CommandPrinted, IsGood, Prints, Wrote, WrotePart, Untold, ExchangedBetween, outcome_line as text_line, scene_links}
+use Rattle.dory_client.specs.CommandEnds.{CommandEnds, FirstSaveFailed, AskFailed, RanOut, CommandFailed, LastSaveFailed, CommandPrinted, IsGood, Prints, Wrote, WrotePart, Untold, ExchangedBetween, outcome_line as text_line}
+use Rattle.dory_drive.specs.Way.{scene_links, Links}
 use Rattle.dory_client.specs.Input.{AreTooMany}
 use Rattle.dory_client.specs.Run.{Acts, NotMade, Refused, NoRoom, Began, StateBegins, IsRun, Loads, Unloaded, Loaded, Runs, StartsIn}
 use Rattle.dory_client.specs.Run as run
-use Rattle.dory_client.specs.Scene.{Input, Scene}
+use Rattle.dory_client.specs.Scene.{Input}
+use Rattle.dory_drive.specs.Scene.{Scene}
 use Rattle.dory_client.specs.Start.{command_of, start_of}
-use Rattle.dory_client.specs.Way.{Links, Interrupted, ExchangedInTurn}
+use Rattle.dory_client.specs.Way.{ExchangedInTurn}
 use Rattle.dory_client.proofs.Acting.{Acted, acted}
 use Rattle.dory_client.proofs.Beginnings.{IsBeginning, Kind, Updates, Searches, Measures, Rests, beginning}
 use Rattle.dory_client.proofs.Confirming.{Tells}

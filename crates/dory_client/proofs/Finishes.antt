@@ -33,7 +33,8 @@ use Rattle.dory_member.specs.Single.{refused}
 use Rattle.dory_client.specs.Ends.{fault_end}
 use Rattle.dory_client.specs.Finishes.{EndsFine}
 use Rattle.dory_client.specs.Sought.{ask_of, step_request}
-use Rattle.dory_client.specs.Way.{ExchangedOver, Links, RunExchanged, ExchangedInTurn}
+use Rattle.dory_client.specs.Way.{RunExchanged, ExchangedInTurn}
+use Rattle.dory_drive.specs.Way.{ExchangedOver, Links}
 use Rattle.dory_client.proofs.Complete.{lengths_told}
 use Rattle.dory_client.proofs.Confirming.{CameAs, ToMark, ToRefusal, Tells, confirms, still}
 use Rattle.dory_client.proofs.Course.{Lengths}

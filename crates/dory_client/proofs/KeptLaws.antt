@@ -21,14 +21,17 @@ use Rattle.dory_client.specs.declared.end.ClientEnd.{ClientEnd}
 use Rattle.dory_client.specs.declared.end.ClientEnd.TheVariants as ends
 use Rattle.dory_client.specs.CallEffects.{IsBegun}
 use Rattle.dory_client.specs.Ends.{fault_end}
-use Rattle.dory_client.specs.CommandEnds.{CommandEnds, FirstSaveFailed, AskFailed, RanOut, CommandFailed, LastSaveFailed, CommandPrinted, IsGood, ExchangedBetween, scene_links}
-use Rattle.dory_client.specs.Kept.{KeepsIf, KeepsNow, KeepsOf}
+use Rattle.dory_client.specs.CommandEnds.{CommandEnds, FirstSaveFailed, AskFailed, RanOut, CommandFailed, LastSaveFailed, CommandPrinted, IsGood, ExchangedBetween}
+use Rattle.dory_drive.specs.Way.{scene_links, Links}
+use Rattle.dory_client.specs.Kept.{KeepsOf}
+use Rattle.dory_drive.specs.Kept.{KeepsIf, KeepsNow}
 use Rattle.dory_client.specs.KeptAfter.{IsUndone, KeptAfter, Old, First, Finished, LineKeeps, StartKeeps, CallKeeps}
 use Rattle.dory_client.specs.Run.{Acts, NotMade, Refused, NoRoom, Began, ActsIn, StateBegins, IsRun, Loads, Unloaded, Loaded, Runs, StartsIn}
 use Rattle.dory_client.specs.Run as run
-use Rattle.dory_client.specs.Scene.{AskedNothing, Input, Scene}
+use Rattle.dory_client.specs.Scene.{Input}
+use Rattle.dory_drive.specs.Scene.{AskedNothing, Scene}
 use Rattle.dory_client.specs.Start.{command_of, start_of}
-use Rattle.dory_client.specs.Way.{Links, Interrupted, RunExchanged, ExchangedInTurn}
+use Rattle.dory_client.specs.Way.{Interrupted, RunExchanged, ExchangedInTurn}
 use Rattle.dory_client.proofs.Acting.{BeginsOrNot, begins_or_not, undone_as, undone_keeper, undone_memory}
 use Rattle.dory_client.proofs.Beginnings.{IsBeginning, Kind, Updates, Searches, Measures, Rests, beginning}
 use Rattle.dory_client.proofs.EffectLaws.{IsMeasured, kept_last, le_greater, measured}

@@ -1,8 +1,6 @@
 pub mod Sealed
 pub mod Reading
-pub mod Asks
 pub mod Commands
-pub mod Drives
 pub mod WayLaws
 pub mod Finish
 pub mod Calls

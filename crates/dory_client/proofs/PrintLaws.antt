@@ -12,7 +12,7 @@ use Rattle.dory_state.specs.declared.fault.StateFault.{StateFault}
 use Rattle.dory_member.specs.declared.outcome.Fault.{Fault}
 use Rattle.dory_member.specs.declared.outcome.Fault.TheVariants as fault
 use Rattle.dory_member.specs.declared.phase.Run.{Run}
-use Rattle.dory_member.specs.Course.{Ask, asks, run_after}
+use Rattle.dory_member.specs.Course.{asks, run_after}
 use Rattle.dory_member.specs.Texts.{text_of_outcome}
 use Rattle.dory_client.specs.declared.input.InputEnd.{InputEnd}
 use Rattle.dory_client.specs.declared.input.InputEnd.TheVariants as input
@@ -23,12 +23,13 @@ use Rattle.dory_client.specs.declared.end.ClientEnd.{ClientEnd}
 use Rattle.dory_client.specs.declared.end.ClientEnd.TheVariants as ends
 use Rattle.dory_client.specs.Command.{NoCommand}
 use Rattle.dory_client.specs.Ends.{AskFailsAs, IsKeeperEnd, fault_end, input_end}
-use Rattle.dory_client.specs.CommandEnds.{CommandEnds, FirstSaveFailed, AskFailed, RanOut, CommandFailed, LastSaveFailed, CommandPrinted, Prints, Wrote, WrotePart, Untold, scene_links}
+use Rattle.dory_client.specs.CommandEnds.{CommandEnds, FirstSaveFailed, AskFailed, RanOut, CommandFailed, LastSaveFailed, CommandPrinted, Prints, Wrote, WrotePart, Untold}
+use Rattle.dory_drive.specs.Way.{scene_links}
 use Rattle.dory_client.specs.Run.{Acts, NotMade, Refused, NoRoom, Began, ActsIn, StateBegins, IsRun, Loads, Unloaded, Loaded, Runs, StartsIn}
 use Rattle.dory_client.specs.Run as run
-use Rattle.dory_client.specs.Scene.{Input, Scene}
+use Rattle.dory_client.specs.Scene.{Input}
+use Rattle.dory_drive.specs.Scene.{Scene}
 use Rattle.dory_client.specs.Start.{start_of}
-use Rattle.dory_client.specs.Way.{Links, Interrupted}
 use Rattle.dory_client.specs.CallPrints.{CallPrints}
 use Rattle.dory_client.proofs.WayLaws.{stuck_at}
 

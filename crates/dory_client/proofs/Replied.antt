@@ -10,7 +10,7 @@ use Rattle.dory_wire.specs.declared.message.What.{What}
 use Rattle.dory_wire.specs.declared.message.Request.{Request}
 use Rattle.dory_wire.specs.Reading.{reply_in}
 use Rattle.dory_link.specs.Told.{Told, IsReadAt, IsReplyTo, IsFolderReply, GrownFrom, Grown, Grows}
-use Rattle.dory_client.specs.Asked.{HasReply}
+use Rattle.dory_drive.specs.Asked.{HasReply}
 use Rattle.dory_client.specs.Complete.{TellsFolder}
 
 -- a frame answers a request between these two tellings of the folder

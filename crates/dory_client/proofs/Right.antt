@@ -33,7 +33,7 @@ use Rattle.dory_state.specs.Spelling.{IsKeptState}
 use Rattle.dory_member.specs.Course.{folder_keys}
 use Rattle.dory_client.specs.Sought.{ask_of, sought_columns, searching, sought_of}
 use Rattle.dory_client.proofs.Course.{Answered}
-use Rattle.dory_client.specs.Asked.{GrewBy, HasReply}
+use Rattle.dory_drive.specs.Asked.{GrewBy, HasReply}
 use Rattle.dory_client.specs.Headline.{SidePart, LastCame, IsExactBeside, IsRightOf, IsRightBy, lead_part, follow_part}
 
 nat_both : (a b c : ℕ) → (nat_le a b && nat_le b c) ≡ true → b ≤ c

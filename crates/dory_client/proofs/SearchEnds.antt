@@ -1,5 +1,5 @@
 -- How a search ends.
-use Rattle.std.proofs.Common.{◌≡◌, ℕ, Bool, true, false, List, Option, None, Some, Result, Ok, Err, refl, ap, sym, ◌∙◌, subst, inl, inr}
+use Rattle.std.proofs.Common.{◌≡◌, ℕ, Bool, true, false, List, Option, Some, Result, Ok, Err, refl, ap, sym, ◌∙◌, subst, inl, inr}
 use Rattle.std.specs.Prelude.{◌⊎◌}
 use Rattle.dory_base.specs.declared.ids.Side.{Side}
 use Rattle.dory_base.specs.declared.ids.Side.TheVariants.{Lead, Follow}
@@ -15,7 +15,7 @@ use Rattle.dory_member.specs.declared.outcome.Fault.{Fault}
 use Rattle.dory_member.specs.declared.outcome.Fault.TheVariants as fault
 use Rattle.dory_member.specs.declared.outcome.Outcome.TheVariants.{Failed}
 use Rattle.dory_member.specs.declared.phase.Run.{Run}
-use Rattle.dory_member.specs.Course.{Ask, asks, ended_of, refused_if, run_after}
+use Rattle.dory_member.specs.Course.{asks, ended_of, refused_if, run_after}
 use Rattle.dory_member.specs.Draw.{is_last_serial}
 use Rattle.dory_client.specs.declared.start.Todo.TheVariants.{Plain}
 use Rattle.dory_client.specs.declared.end.ClientEnd.{ClientEnd}
@@ -23,10 +23,12 @@ use Rattle.dory_client.specs.declared.end.ClientEnd.TheVariants as ends
 use Rattle.dory_client.specs.Command.{NoCommand}
 use Rattle.dory_client.specs.Complete.{SearchEndsWell, IsDomainRefusal, KeepsState, TellAlike}
 use Rattle.dory_client.specs.Ends.{AskFailsAs, IsKeeperEnd, fault_end}
-use Rattle.dory_client.specs.CommandEnds.{CommandEnds, FirstSaveFailed, AskFailed, RanOut, CommandFailed, LastSaveFailed, CommandPrinted, Prints, Wrote, WrotePart, Untold, scene_links}
+use Rattle.dory_client.specs.CommandEnds.{CommandEnds, FirstSaveFailed, AskFailed, RanOut, CommandFailed, LastSaveFailed, CommandPrinted, Prints, Wrote, WrotePart, Untold}
+use Rattle.dory_drive.specs.Way.{scene_links}
 use Rattle.dory_client.specs.Run.{Acts, NotMade, Refused, NoRoom, Began, IsRun, Runs}
-use Rattle.dory_client.specs.Scene.{Input, Scene}
-use Rattle.dory_client.specs.Way.{Links, Interrupted, ExchangedInTurn}
+use Rattle.dory_client.specs.Scene.{Input}
+use Rattle.dory_drive.specs.Scene.{Scene}
+use Rattle.dory_client.specs.Way.{ExchangedInTurn}
 use Rattle.dory_client.proofs.Acting.{Acted, acted}
 use Rattle.dory_client.proofs.Beginnings.{search_begins}
 use Rattle.dory_client.proofs.Complete.{failed_refused}

@@ -20,9 +20,10 @@ use Rattle.dory_member.specs.Course.{after_lengths, after_search, answer_by, ask
 use Rattle.dory_member.proofs.Queries.{lists_answer}
 use Rattle.dory_wire.specs.declared.message.Request.{Request}
 use Rattle.dory_link.specs.Told.{Heard}
-use Rattle.dory_client.specs.Asked.{Exchanged}
+use Rattle.dory_drive.specs.Asked.{Exchanged}
 use Rattle.dory_client.specs.Sought.{ask_of, step_request, sought_columns, searching, sought_of}
-use Rattle.dory_client.specs.Way.{Links, ExchangedInTurn}
+use Rattle.dory_client.specs.Way.{ExchangedInTurn}
+use Rattle.dory_drive.specs.Way.{Links}
 use Rattle.dory_client.proofs.Course.{Pair, Lengths, Finding, Searched, Answered, Failed}
 
 -- the run of a search

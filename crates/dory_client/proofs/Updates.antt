@@ -38,7 +38,8 @@ use Rattle.dory_member.specs.Course.{Ask, after_fault, after_mark, after_refused
 use Rattle.dory_member.specs.Single.{confirmed, mark, said}
 use Rattle.dory_member.proofs.ConfirmationLaws.{heard}
 use Rattle.dory_client.specs.CallEffects.{HasAt, ToldAt}
-use Rattle.dory_client.specs.Way.{Links, ExchangedOver, RunExchanged, ExchangedInTurn}
+use Rattle.dory_client.specs.Way.{RunExchanged, ExchangedInTurn}
+use Rattle.dory_drive.specs.Way.{Links, ExchangedOver}
 use Rattle.dory_client.proofs.Committed.{told_has, has_more}
 
 -- the links told from the beginning a of a command to now z, the lead has the update of this id at this number

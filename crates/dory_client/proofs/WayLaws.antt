@@ -5,7 +5,8 @@ use Rattle.dory_member.specs.declared.phase.Run.{Run}
 use Rattle.dory_member.specs.Course.{Ask, asks}
 use Rattle.dory_client.specs.declared.end.ClientEnd.{ClientEnd}
 use Rattle.dory_client.specs.Ends.{AskFailsAs}
-use Rattle.dory_client.specs.Way.{Links, ExchangedInTurn, Interrupted, RunExchanged}
+use Rattle.dory_client.specs.Way.{ExchangedInTurn, Interrupted, RunExchanged}
+use Rattle.dory_drive.specs.Way.{Links}
 
 pub no_frames : (run : Run) (frames : List (List ℕ)) (a z : Links) → asks run.phase ≡ None → ExchangedInTurn run frames a z → frames ≡ []
 no_frames run [] a z none went = refl

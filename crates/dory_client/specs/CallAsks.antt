@@ -15,12 +15,12 @@ use Rattle.dory_client.specs.declared.start.Start.{Start}
 use Rattle.dory_client.specs.declared.start.Start.TheVariants.{Init, Act}
 use Rattle.dory_client.specs.declared.end.ClientEnd.{ClientEnd}
 use Rattle.dory_client.specs.declared.end.ClientEnd.TheVariants as ends
-use Rattle.dory_client.specs.Asked.{AskedFrames, request_frame}
+use Rattle.dory_drive.specs.Asked.{AskedFrames, request_frame}
 use Rattle.dory_client.specs.CallEffects.{IsBegun}
-use Rattle.dory_client.specs.CommandEnds.{scene_links}
-use Rattle.dory_client.specs.Scene.{Input, Scene, AskedNothing}
+use Rattle.dory_drive.specs.Way.{scene_links, Links}
+use Rattle.dory_client.specs.Scene.{Input}
+use Rattle.dory_drive.specs.Scene.{Scene, AskedNothing}
 use Rattle.dory_client.specs.Start.{start_of}
-use Rattle.dory_client.specs.Way.{Links}
 
 -- what a link of a side tells
 abbrev pub heard_by : Side → Links → Heard

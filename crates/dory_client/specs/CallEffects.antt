@@ -22,7 +22,8 @@ use Rattle.dory_client.specs.declared.start.Start.TheVariants.{Init, Act}
 use Rattle.dory_client.specs.Command.{HasText}
 use Rattle.dory_client.specs.CommandEnds.{outcome_line}
 use Rattle.dory_client.specs.Kept.{KeepsOf}
-use Rattle.dory_client.specs.Scene.{Input, Scene}
+use Rattle.dory_client.specs.Scene.{Input}
+use Rattle.dory_drive.specs.Scene.{Scene}
 use Rattle.dory_client.specs.Start.{start_of, command_of}
 
 -- a history has the update of this id at this number, counted from 1

@@ -9,15 +9,17 @@ use Rattle.dory_member.specs.declared.outcome.Fault.{Fault}
 use Rattle.dory_member.specs.declared.phase.Run.{Run}
 use Rattle.dory_state.specs.declared.kept.KeptState.{KeptState}
 use Rattle.dory_member.specs.declared.command.Command.{Command}
-use Rattle.dory_member.specs.Course.{begun, ended_of, outcome_at, run_after}
-use Rattle.dory_member.specs.Machine.{Machine, keeps}
+use Rattle.dory_member.specs.Course.{begun, ended_of, run_after}
+use Rattle.dory_member.specs.Machine.{keeps}
 use Rattle.dory_member.specs.Texts.{text_of_outcome}
 use Rattle.dory_client.specs.declared.end.ClientEnd.{ClientEnd}
 use Rattle.dory_client.specs.declared.end.ClientEnd.TheVariants as ends
 use Rattle.dory_client.specs.Ends.{fault_end, IsKeeperEnd}
-use Rattle.dory_client.specs.Kept.{KeepsIf, KeepsNow, KeepsOf, OldOrNew}
-use Rattle.dory_client.specs.Scene.{Scene, AskedNothing, IsUntouched, WroteNothing}
-use Rattle.dory_client.specs.Way.{InterruptedAfter, Links, ExchangedInTurn, links}
+use Rattle.dory_client.specs.Kept.{KeepsOf}
+use Rattle.dory_drive.specs.Kept.{KeepsNow, OldOrNew}
+use Rattle.dory_drive.specs.Scene.{Scene, AskedNothing, IsUntouched, WroteNothing}
+use Rattle.dory_client.specs.Way.{InterruptedAfter, ExchangedInTurn}
+use Rattle.dory_drive.specs.Way.{scene_links}
 
 -- a text was to be written: it was, or the first part of it, or memory ran out and nothing was
 pub data Prints (text : List ℕ) (before now : Option (List ℕ)) (end : ClientEnd) : Type 0 where
@@ -49,10 +51,6 @@ IsGood (Lengths lead follow seen) = ⊤
 IsGood (Rotated epoch) = ⊤
 IsGood (Failed f) = ⊥
 
--- what both links tell at a moment
-abbrev pub scene_links : Scene → Links
-scene_links s = links s.lead s.follow
-
 -- these frames came to a run, each to what it asked
 abbrev pub ExchangedBetween : Run → List (List ℕ) → Scene → Scene → Type 0
 ExchangedBetween run frames before after = ExchangedInTurn run frames (scene_links before) (scene_links after)
@@ -73,11 +71,6 @@ pub data CommandEnds (run : Run) (before after : Scene) (end : ClientEnd) : Type
   -- it came to its end by these frames and its state is kept; its text was to be written
   CommandPrinted : (frames : List (List ℕ)) (outcome : Outcome) → ExchangedBetween run frames before after → ended_of run frames ≡ Some outcome → IsGood outcome
       → KeepsOf run before.kept after.kept (run_after run frames).kept → Prints (outcome_line outcome) before.written after.written end → CommandEnds run before after end
-
--- A member that asks nothing more: its state is kept where that is due, and its outcome comes to the end.
-pub data Closes (m : Machine) (kept kept' : Option (Option (List ℕ))) (written written' : Option (List ℕ)) (end : ClientEnd) : Type 0 where
-  SaveFailed : m.unsaved ≡ true → OldOrNew kept kept' m.run.kept → Stays written written' → IsKeeperEnd end → Closes m kept kept' written written' end
-  SaveDone : (outcome : Outcome) → outcome_at m.run.phase ≡ Some outcome → KeepsIf m.unsaved kept kept' m.run.kept → OutcomePrints outcome written written' end → Closes m kept kept' written written' end
 
 -- a command goes on where it begins; where it is refused, or memory runs out, nothing was asked, kept or written
 pub data CommandEndsFrom (k : KeptState) (seed : List ℕ) (c : Command) (before after : Scene) (end : ClientEnd) : Type 0 where

@@ -3,6 +3,9 @@ use Rattle.std.specs.Prelude.{◌≡◌, ◌⊎◌}
 use Rattle.dory_base.specs.declared.ids.Side.{Side}
 use Rattle.dory_member.specs.declared.outcome.Fault.{Fault}
 use Rattle.dory_member.specs.declared.outcome.Fault.TheVariants as fault
+use Rattle.dory_drive.specs.declared.broken.Broken.{Broken}
+use Rattle.dory_drive.specs.declared.broken.Broken.TheVariants as broken
+use Rattle.dory_drive.specs.Scene.{Part, Keeper, Link, Output}
 use Rattle.dory_client.specs.declared.input.InputEnd.{InputEnd}
 use Rattle.dory_client.specs.declared.input.InputEnd.TheVariants as input
 use Rattle.dory_client.specs.declared.end.ClientEnd.{ClientEnd}
@@ -31,3 +34,15 @@ AskFailsAs side end = (end ≡ ends.LinkFault side) ⊎ (end ≡ ends.NoMemory)
 -- the end of a load or a save that failed
 abbrev pub IsKeeperEnd : ClientEnd → Type 0
 IsKeeperEnd end = (end ≡ ends.KeeperFault) ⊎ (end ≡ ends.NoMemory)
+
+-- the end where a conversation broke off
+abbrev pub broken_end : Broken → ClientEnd
+broken_end broken.KeeperFault = ends.KeeperFault
+broken_end (broken.LinkFault side) = ends.LinkFault side
+broken_end broken.NoMemory = ends.NoMemory
+
+-- the call ended since this part failed
+abbrev pub FailedAt : ClientEnd → Part → Type 0
+FailedAt end Keeper = end ≡ ends.KeeperFault
+FailedAt end (Link side) = end ≡ ends.LinkFault side
+FailedAt end Output = end ≡ ends.OutputFault

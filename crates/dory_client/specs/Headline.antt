@@ -17,9 +17,9 @@ use Rattle.dory_state.specs.declared.kept.KeptState.{KeptState}
 use Rattle.dory_state.specs.Reading.{state_of}
 use Rattle.dory_member.specs.declared.outcome.Outcome.TheVariants.{Accepted}
 use Rattle.dory_member.specs.Course.{folder_keys}
-use Rattle.dory_client.specs.Asked.{GrewBy, spoke}
+use Rattle.dory_drive.specs.Asked.{GrewBy, spoke}
 use Rattle.dory_client.specs.CommandEnds.{outcome_line}
-use Rattle.dory_client.specs.Scene.{Scene}
+use Rattle.dory_drive.specs.Scene.{Scene}
 use Rattle.dory_client.specs.Sought.{step_request, sought_columns, searching, sought_of}
 
 -- the other domain's part in a search: what its link told before and after, the steps of its two asks, and the keys that

@@ -1,30 +1,10 @@
--- What is kept after a save.
-use Rattle.std.specs.Prelude.{ℕ, ◌≡◌, ◌⊎◌, ⊤, Bool, true, false, List, Option, Some, None}
-use Rattle.dory_io.specs.Bytes.{Stays}
+-- What a command keeps first.
+use Rattle.std.specs.Prelude.{ℕ, List, Option}
 use Rattle.dory_state.specs.declared.kept.KeptState.{KeptState}
-use Rattle.dory_state.specs.Spelling.{spelling_of_state}
-use Rattle.dory_member.specs.Machine.{Machine, saves_first}
+use Rattle.dory_member.specs.Machine.{saves_first}
 use Rattle.dory_member.specs.declared.phase.Run.{Run}
-
--- where it is told, this state is kept now
-abbrev pub KeepsNow : Option (Option (List ℕ)) → Option (Option (List ℕ)) → KeptState → Type 0
-KeepsNow None now state = ⊤
-KeepsNow (Some before) None state = ⊥
-KeepsNow (Some before) (Some now) state = now ≡ Some (spelling_of_state state)
-
--- what is kept is as it was, or this state
-abbrev pub OldOrNew : Option (Option (List ℕ)) → Option (Option (List ℕ)) → KeptState → Type 0
-OldOrNew before now state = Stays before now ⊎ KeepsNow before now state
-
--- a state is kept if so, and otherwise what is kept stays
-abbrev pub KeepsIf : Bool → Option (Option (List ℕ)) → Option (Option (List ℕ)) → KeptState → Type 0
-KeepsIf true before now state = KeepsNow before now state
-KeepsIf false before now state = Stays before now
+use Rattle.dory_drive.specs.Kept.{KeepsIf}
 
 -- A run's state is kept. One that asks nothing and comes to nothing new keeps nothing.
 abbrev pub KeepsOf : Run → Option (Option (List ℕ)) → Option (Option (List ℕ)) → KeptState → Type 0
 KeepsOf run before now state = KeepsIf (saves_first run.phase) before now state
-
--- a member that waits for no save
-abbrev pub quiet : Machine → Machine
-quiet m = record m { unsaved = false }

@@ -15,8 +15,10 @@ use Rattle.dory_client.specs.declared.end.ClientEnd.{ClientEnd}
 use Rattle.dory_client.specs.declared.end.ClientEnd.TheVariants as ends
 use Rattle.dory_client.specs.CallEffects.{IsBegun}
 use Rattle.dory_client.specs.CommandEnds.{IsGood, ExchangedBetween}
-use Rattle.dory_client.specs.Kept.{KeepsNow, KeepsOf, OldOrNew}
-use Rattle.dory_client.specs.Scene.{Input, Scene, AskedNothing}
+use Rattle.dory_client.specs.Kept.{KeepsOf}
+use Rattle.dory_drive.specs.Kept.{KeepsNow, OldOrNew}
+use Rattle.dory_client.specs.Scene.{Input}
+use Rattle.dory_drive.specs.Scene.{Scene, AskedNothing}
 use Rattle.dory_client.specs.Start.{start_of}
 
 -- the call wasn't done

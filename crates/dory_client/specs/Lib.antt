@@ -3,9 +3,7 @@ pub mod Input
 pub mod Start
 pub mod Ends
 pub mod Command
-pub mod Asked
 pub mod Way
-pub mod Driven
 pub mod Kept
 pub mod Text
 pub mod CommandEnds

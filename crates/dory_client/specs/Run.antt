@@ -19,8 +19,9 @@ use Rattle.dory_client.specs.declared.end.ClientEnd.TheVariants as ends
 use Rattle.dory_client.specs.Command.{HasText, NoCommand}
 use Rattle.dory_client.specs.Ends.{fault_end, IsKeeperEnd}
 use Rattle.dory_client.specs.CommandEnds.{CommandEnds, Prints}
-use Rattle.dory_client.specs.Kept.{KeepsNow, OldOrNew}
-use Rattle.dory_client.specs.Scene.{Input, Scene, AskedNothing, IsUnread, IsUntouched}
+use Rattle.dory_drive.specs.Kept.{KeepsNow, OldOrNew}
+use Rattle.dory_client.specs.Scene.{Input, IsUnread}
+use Rattle.dory_drive.specs.Scene.{Scene, AskedNothing, IsUntouched}
 use Rattle.dory_client.specs.Start.{start_of, command_of}
 
 -- nothing was read, asked, kept or written

@@ -2,14 +2,12 @@
 #![tactic(auto)]
 
 mod command;
-mod drive;
 mod end;
 mod go;
 mod help;
 mod input;
 mod run;
 mod said;
-mod save;
 mod start;
 #[cfg(test)]
 mod tests;

@@ -1,44 +1,51 @@
 //! What is written.
-ghost use Rattle.std.specs.Prelude.{◌≡◌, ◌++◌, ◌∷◌, [], Some, codes, string_bytes, IsErrOf};
+ghost use Rattle.std.specs.Prelude.{◌≡◌, ◌++◌, ◌∷◌, [], Some, codes, string_bytes};
 ghost use Rattle.dory_io.specs.Causes.{HasCause};
 ghost use Rattle.dory_member.specs.declared.outcome.Outcome.{Outcome as OutcomeOf};
 ghost use Rattle.dory_client.specs.CommandEnds.{Prints, outcome_line};
+ghost use Rattle.dory_drive.specs.Scene.{OnlyOutput};
 
 use crate::end::ClientEnd;
 use dory_base::NoMemory;
-use dory_io::{Sink, write_all};
+use dory_drive::Outside;
 use dory_member::{Outcome, outcome_text};
 use std::alloc::Global;
 
 /// Writes a text and a line end.
-fn say<O: Sink>(alloc: Global, text: &str, out: &mut O) -> ClientEnd
-    ensures says { Prints (text.now ++ 10 ∷ []) (O.written out.old) (O.written out.new) result }
-    ensures cause { HasCause (O.faults out.old) (O.faults out.new) (result ≡ ClientEnd.OutputFault) }
+fn say<W: Outside>(alloc: Global, text: &str, outside: &mut W) -> ClientEnd
+    ensures lent { W.lent outside.new ≡ W.lent outside.old }
+    ensures only { OnlyOutput (W.scene outside.old) (W.scene outside.new) }
+    ensures says { Prints (text.now ++ 10 ∷ []) (W.scene outside.old).written (W.scene outside.new).written result }
+    ensures cause { HasCause (W.scene outside.old).faults.output (W.scene outside.new).faults.output (result ≡ ClientEnd.OutputFault) }
 {
     let Ok(line) = format!(in alloc; "{text}\n") else {
         return ClientEnd::NoMemory;
     };
-    match write_all(out, line.as_bytes()) {
+    match outside.write(line.as_bytes()) {
         Ok(()) => ClientEnd::Done,
         Err(_) => ClientEnd::OutputFault,
     }
 }
 
 /// Writes that a first state is kept.
-pub fn say_ready<O: Sink>(alloc: Global, out: &mut O) -> ClientEnd
-    ensures says { Prints (codes "ready" ++ 10 ∷ []) (O.written out.old) (O.written out.new) result }
-    ensures cause { HasCause (O.faults out.old) (O.faults out.new) (result ≡ ClientEnd.OutputFault) }
+pub fn say_ready<W: Outside>(alloc: Global, outside: &mut W) -> ClientEnd
+    ensures lent { W.lent outside.new ≡ W.lent outside.old }
+    ensures only { OnlyOutput (W.scene outside.old) (W.scene outside.new) }
+    ensures says { Prints (codes "ready" ++ 10 ∷ []) (W.scene outside.old).written (W.scene outside.new).written result }
+    ensures cause { HasCause (W.scene outside.old).faults.output (W.scene outside.new).faults.output (result ≡ ClientEnd.OutputFault) }
 {
-    say(alloc, "ready", out)
+    say(alloc, "ready", outside)
 }
 
 /// Writes what a command came to.
-pub fn say_outcome<O: Sink>(alloc: Global, outcome: &Outcome, out: &mut O) -> ClientEnd
-    ensures says { Prints (outcome_line outcome.now) (O.written out.old) (O.written out.new) result }
-    ensures cause { HasCause (O.faults out.old) (O.faults out.new) (result ≡ ClientEnd.OutputFault) }
+pub fn say_outcome<W: Outside>(alloc: Global, outcome: &Outcome, outside: &mut W) -> ClientEnd
+    ensures lent { W.lent outside.new ≡ W.lent outside.old }
+    ensures only { OnlyOutput (W.scene outside.old) (W.scene outside.new) }
+    ensures says { Prints (outcome_line outcome.now) (W.scene outside.old).written (W.scene outside.new).written result }
+    ensures cause { HasCause (W.scene outside.old).faults.output (W.scene outside.new).faults.output (result ≡ ClientEnd.OutputFault) }
 {
     match outcome_text(alloc, outcome) {
-        Ok(text) => say(alloc, text.as_str(), out),
+        Ok(text) => say(alloc, text.as_str(), outside),
         Err(NoMemory) => ClientEnd::NoMemory,
     }
 }

@@ -19,7 +19,7 @@ returns-clause-complete g c = λ search alike f is. complete (map string_bytes c
 pub returns-clause-ends : goal.returns-clause-ends
 returns-clause-ends g c = λ alike free.
     ends_well (map string_bytes c.args.words.now) c.args.seed free.searches.word _ _ _ _ c.call.result _ _ _ _ free.searches.is alike free.serial c.call.ensures.run
-    c.call.ensures.keeper.rose c.call.ensures.lead.rose c.call.ensures.follow.rose c.call.ensures.out.rose free.keeper_worked free.lead_worked free.follow_worked free.sink_worked
+    c.call.ensures.cause.keeper.rose c.call.ensures.cause.lead.rose c.call.ensures.cause.follow.rose c.call.ensures.cause.output.rose free.keeper_worked free.lead_worked free.follow_worked free.sink_worked
 
 pub returns-clause-leaves : goal.returns-clause-leaves
 returns-clause-leaves g c = leaves (map string_bytes c.args.words.now) c.args.seed _ _ _ _ c.call.result c.call.ensures.run
@@ -27,12 +27,12 @@ returns-clause-leaves g c = leaves (map string_bytes c.args.words.now) c.args.se
 pub returns-clause-finishes : goal.returns-clause-finishes
 returns-clause-finishes g c = λ told may.
     finishes (map string_bytes c.args.words.now) c.args.seed may.todo _ _ _ _ c.call.result _ _ _ _ _ may.sets_out told may.ready may.short may.up_to_date c.call.ensures.run
-    c.call.ensures.keeper.rose c.call.ensures.lead.rose c.call.ensures.follow.rose c.call.ensures.input.rose c.call.ensures.out.rose c.call.ensures.long
+    c.call.ensures.cause.keeper.rose c.call.ensures.cause.lead.rose c.call.ensures.cause.follow.rose c.call.ensures.input.rose c.call.ensures.cause.output.rose c.call.ensures.long
     may.keeper_worked may.lead_worked may.follow_worked may.source_worked may.sink_worked
 
 pub returns-clause-begins : goal.returns-clause-begins
 returns-clause-begins g c = λ may.
-    begins (map string_bytes c.args.words.now) c.args.seed may.line may.first _ _ _ _ c.call.result _ _ may.is may.starts may.none c.call.ensures.run c.call.ensures.keeper.rose c.call.ensures.out.rose may.keeper_worked may.sink_worked
+    begins (map string_bytes c.args.words.now) c.args.seed may.line may.first _ _ _ _ c.call.result _ _ may.is may.starts may.none c.call.ensures.run c.call.ensures.cause.keeper.rose c.call.ensures.cause.output.rose may.keeper_worked may.sink_worked
 
 pub returns-clause-wrote : goal.returns-clause-wrote
 returns-clause-wrote g c = writes (map string_bytes c.args.words.now) c.args.seed _ _ _ _ c.call.result c.call.ensures.run
