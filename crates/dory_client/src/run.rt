@@ -1,6 +1,5 @@
 //! The top call.
 ghost use Rattle.std.specs.Prelude.{◌≡◌, ◌⊎◌, map, string_bytes};
-ghost use Rattle.dory_base.specs.declared.ids.Side.TheVariants as sides;
 ghost use Rattle.dory_io.specs.Causes.{HasCause};
 ghost use Rattle.dory_state.specs.Spelling.{IsKeptState};
 ghost use Rattle.dory_state.specs.Reading.{state_of};
@@ -153,11 +152,8 @@ pub fn client_run<L0: Link, L1: Link, K: Keeper, S: Source, O: Sink>(
     ensures run { IsRun (map string_bytes words.now) seed (input_at (S.left input.old) (S.given input.old)) (input_at (S.left input.new) (S.given input.new))
         (scene (K.kept keeper.old) (L0.heard lead.old) (L1.heard follow.old) (O.written out.old) (faults (K.faults keeper.old) (L0.faults lead.old) (L1.faults follow.old) (O.faults out.old))) (scene (K.kept keeper.new) (L0.heard lead.new) (L1.heard follow.new) (O.written out.new) (faults (K.faults keeper.new) (L0.faults lead.new) (L1.faults follow.new) (O.faults out.new))) result }
     // Each fault of the outside comes only where its count rose, and no count falls.
-    ensures keeper { HasCause (K.faults keeper.old) (K.faults keeper.new) (result ≡ ClientEnd.KeeperFault) }
-    ensures lead { HasCause (L0.faults lead.old) (L0.faults lead.new) (result ≡ ClientEnd.LinkFault sides.Lead) }
-    ensures follow { HasCause (L1.faults follow.old) (L1.faults follow.new) (result ≡ ClientEnd.LinkFault sides.Follow) }
+    ensures cause { Caused (faults (K.faults keeper.old) (L0.faults lead.old) (L1.faults follow.old) (O.faults out.old)) (faults (K.faults keeper.new) (L0.faults lead.new) (L1.faults follow.new) (O.faults out.new)) (FailedAt result) }
     ensures input { HasCause (S.faults input.old) (S.faults input.new) (result ≡ ClientEnd.InputFault) }
-    ensures out { HasCause (O.faults out.old) (O.faults out.new) (result ≡ ClientEnd.OutputFault) }
     // The headline: an accepted search is right by each link that tells its folders, or the other link's reply is the
     // forgery.
     ensures accepted { result ≡ ClientEnd.Done → IsAccepted (map string_bytes words.now) seed
