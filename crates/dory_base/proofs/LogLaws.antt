@@ -18,7 +18,9 @@ use Rattle.dory_base.specs.declared.plan.Plan.TheVariants.{Again, Fresh}
 use Rattle.dory_base.specs.declared.refusal.Refusal.{Refusal}
 use Rattle.dory_base.specs.declared.refusal.Refusal.TheVariants.{ShapeWrong, BadMember, Past, Clash, Unfinished, Taken, Gap, HistoryFull}
 use Rattle.dory_base.specs.Log.{Log, empty_log, same_id, number_of, last_of, at_place, staged_by, with_id, staged_as, has_shape, stage_again, stage_busy, stage_beside, stage_known, look_stage, order_staged, order_known, order_as, look_order, follow_staged, follow_known, follow_again, follow_as, look_follow}
-use Rattle.dory_base.specs.Step.{Event, Staged, Appended, log_staged, log_appended, log_after, event_of_stage, event_of_plan, IsSerial, IsMembersId, IsAbove, IsPlace, IsLog}
+use Rattle.dory_base.specs.declared.event.Event.{Event}
+use Rattle.dory_base.specs.declared.event.Event.TheVariants.{Staged, Appended}
+use Rattle.dory_base.specs.Step.{log_staged, log_appended, log_after, event_of_stage, event_of_plan, IsSerial, IsMembersId, IsAbove, IsPlace, IsLog}
 use Rattle.dory_base.proofs.SameLaws.{same_id-true}
 use Rattle.dory_base.proofs.IdLaws.{last_snoc, rises_snoc, number_above, last_unknown, ids_distinct}
 

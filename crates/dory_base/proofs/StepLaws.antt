@@ -12,7 +12,9 @@ use Rattle.dory_base.specs.declared.entry.Entry.{Entry}
 use Rattle.dory_base.specs.declared.entry.Change.{Change}
 use Rattle.dory_base.specs.declared.entry.Change.TheVariants.{Post, Remove}
 use Rattle.dory_base.specs.Log.{Log, staged_by, staged_as, has_shape}
-use Rattle.dory_base.specs.Step.{Event, Staged, Appended, State, empty_state, ids_of, log_of, log_after, log_appended, state_appended, after, IsStagedOf, IsLog, IsState}
+use Rattle.dory_base.specs.declared.event.Event.{Event}
+use Rattle.dory_base.specs.declared.event.Event.TheVariants.{Staged, Appended}
+use Rattle.dory_base.specs.Step.{State, empty_state, ids_of, log_of, log_after, log_appended, state_appended, after, IsStagedOf, IsLog, IsState}
 use Rattle.dory_base.proofs.SameLaws.{shape_decides}
 use Rattle.dory_base.proofs.LogLaws.{MayHappen, empty_is_log, after_is_log, all_snoc, log_distinct, nothing_staged, place_set_same, place_set_other, place_within, with_id_some}
 

@@ -19,17 +19,23 @@ use Rattle.dory_base.proofs.Selected.{xor_all-append}
 -- ---- what a table stands for
 
 pub stands_empty : (shape : Dims) → StandsFor (empty_of shape) []
-stands_empty shape = record { number_is = refl; slots_are = refl }
+stands_empty shape = refl
+
+pub number_stands : (t : Kept) (entries : List Entry) → StandsFor t entries → t.number ≡ length entries
+number_stands t entries stands = ap (λ (k : Kept). k.number) stands
+
+pub slots_stand : (t : Kept) (entries : List Entry) → StandsFor t entries → t.slots ≡ table_of entries
+slots_stand t entries stands = ap (λ (k : Kept). k.slots) stands
 
 -- one update more
 pub table_of-more : (entries : List Entry) (e : Entry) → table_of (entries ++ e ∷ []) ≡ step (table_of entries) e
 table_of-more entries e = fold-append step [] entries (e ∷ [])
 
 pub stands_next : (t : Kept) (e : Entry) (entries : List Entry) → StandsFor t entries → StandsFor (next_of t e) (entries ++ e ∷ [])
-stands_next t e entries s = record {
-  number_is = omega (arith, s.number_is, length-append entries (e ∷ []));
-  slots_are = ap (λ (slots : Slots). step slots e) s.slots_are ∙ sym (table_of-more entries e);
-}
+stands_next t e entries s =
+    let number : t.number + 1 ≡ length (entries ++ e ∷ []) = omega (arith, number_stands t entries s, length-append entries (e ∷ [])) in
+    let slots : step t.slots e ≡ table_of (entries ++ e ∷ []) = ap (λ (slots : Slots). step slots e) (slots_stand t entries s) ∙ sym (table_of-more entries e) in
+    (λ i. record { shape = t.shape; number = number i; slots = slots i })
 
 -- ---- what a table keeps
 

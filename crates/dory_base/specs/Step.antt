@@ -7,16 +7,13 @@ use Rattle.dory_base.specs.Log.{Log, last_of, staged_by, staged_as}
 use Rattle.dory_base.specs.declared.ids.Side.{Side}
 use Rattle.dory_base.specs.declared.ids.UpdateId.{UpdateId}
 use Rattle.dory_base.specs.declared.entry.Entry.{Entry}
+use Rattle.dory_base.specs.declared.event.Event.{Event}
+use Rattle.dory_base.specs.declared.event.Event.TheVariants.{Staged, Appended}
 use Rattle.dory_base.specs.declared.plan.StagePlan.{StagePlan}
 use Rattle.dory_base.specs.declared.plan.StagePlan.TheVariants.{New, Same, Done}
 use Rattle.dory_base.specs.declared.plan.Plan.{Plan}
 use Rattle.dory_base.specs.declared.plan.Plan.TheVariants.{Again, Fresh}
 use Rattle.dory_base.specs.declared.refusal.Refusal.{Refusal}
-
--- what happens to a folder: this update is staged, or the staged update of this id joins the history
-pub data Event : Type 0 where
-  Staged : Entry → Event
-  Appended : UpdateId → Event
 
 -- ---- the log
 

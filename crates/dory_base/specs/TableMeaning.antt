@@ -39,10 +39,13 @@ empty_of shape = record { shape = shape; number = 0; slots = [] }
 abbrev pub next_of : Kept → Entry → Kept
 next_of t e = record { shape = t.shape; number = t.number + 1; slots = step t.slots e }
 
--- the table is the one that these updates give, in their order
-pub record StandsFor (t : Kept) (entries : List Entry) : Type 0 where
-  pub number_is : t.number ≡ length entries
-  pub slots_are : t.slots ≡ table_of entries
+-- the table of a folder of this shape that has had these updates, in their order
+abbrev pub kept_of : Dims → List Entry → Kept
+kept_of shape entries = record { shape = shape; number = length entries; slots = table_of entries }
+
+-- the table is the one that these updates give
+abbrev pub StandsFor : Kept → List Entry → Type 0
+StandsFor t entries = t ≡ kept_of t.shape entries
 
 -- the XOR of this column's tags over the live slots
 abbrev pub column_tag_of : Slots → ℕ → ℕ

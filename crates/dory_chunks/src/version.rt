@@ -220,6 +220,8 @@ impl Version {
     }
 }
 
+/// The next version, with steps that are made here and dropped. It stands apart from `next_uncounted`, and takes its ledger
+/// as a parameter: a function that names one ledger itself has no ghosts for the blank.
 fn next_blank<L: Ledger>(
     version: &Version,
     alloc: Global,

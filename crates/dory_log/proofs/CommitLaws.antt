@@ -4,7 +4,8 @@ use Rattle.std.specs.Prelude.{Option, None, slice_set}
 use Rattle.dory_base.specs.declared.ids.UpdateId.{UpdateId}
 use Rattle.dory_base.specs.declared.entry.Entry.{Entry}
 use Rattle.dory_base.specs.Log.{Log}
-use Rattle.dory_base.specs.Step.{Appended, log_appended, log_after, IsLog}
+use Rattle.dory_base.specs.declared.event.Event.TheVariants.{Appended}
+use Rattle.dory_base.specs.Step.{log_appended, log_after, IsLog}
 use Rattle.dory_base.proofs.LogLaws.{IsFresh, order_seen, follow_seen, above_of, place_within, committed_is_log}
 use Rattle.dory_log.specs.Numbered.{MayJoin}
 use Rattle.dory_log.specs.Spared.{MayCommit}

@@ -4,7 +4,8 @@ ghost use Rattle.std.specs.Option.{option_map, option_copied};
 ghost use Rattle.std.specs.Arc.{arc_value};
 ghost use Rattle.dory_base.specs.declared.plan.StagePlan.TheVariants as stage_plan;
 ghost use Rattle.dory_base.specs.Log.{empty_log, same_id, staged_as as staged_in, stage_beside, look_stage as look_stage_of, look_order as look_order_of, look_follow as look_follow_of, which as which_of, has_shape, number_of, follow_known, follow_again};
-ghost use Rattle.dory_base.specs.Step.{Staged, Appended, log_after, IsSerial, IsLog};
+ghost use Rattle.dory_base.specs.declared.event.Event.TheVariants.{Staged, Appended};
+ghost use Rattle.dory_base.specs.Step.{log_after, IsSerial, IsLog};
 ghost use Rattle.dory_log.specs.Spared.{MayCommit};
 
 use crate::numbers::Numbers;
