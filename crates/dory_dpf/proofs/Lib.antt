@@ -6,6 +6,5 @@ pub mod Children
 pub mod Paths
 pub mod KeyLaws
 pub mod Pair
-pub mod Levels
 pub mod Spelled
 pub mod XorBits

@@ -25,6 +25,5 @@ pub use generator::{Doubled, double};
 pub use key::Key;
 pub use key_fault::KeyFault;
 pub use keys::Keys;
-pub use reading::levels_of;
 pub use stream::stream_words;
 pub use tree::{Correction, Node};

@@ -1,5 +1,5 @@
 -- How long messages are, and that an encoder's frame is read back.
-use Rattle.std.proofs.Common.{◌≡◌, ◌∙◌, ℕ, suc, ◌*◌, ◌≤◌, List, [], ◌∷◌, ◌++◌, length, Some, Result, Ok, Err, refl, ap, arith, All, Option, None}
+use Rattle.std.proofs.Common.{◌≡◌, ◌∙◌, ℕ, suc, ◌*◌, ◌≤◌, List, [], ◌∷◌, ◌++◌, length, Some, Result, Ok, Err, refl, ap, arith, Option, None}
 use Rattle.std.specs.Prelude.{IfOk}
 use Rattle.std.specs.Global.{Vec}
 use Rattle.std.specs.List.{flat_map, AllByRecursion}
@@ -15,9 +15,9 @@ use Rattle.dory_base.specs.declared.found.Sum.{Sum}
 use Rattle.dory_base.specs.declared.found.Found.{Found}
 use Rattle.dory_base.specs.declared.refusal.Refusal.{Refusal}
 use Rattle.dory_base.specs.declared.refusal.Refusal.TheVariants.{NoFolder, ShapeWrong, Unretained, BadMember, Past, Clash, Unfinished, Unstaged, Taken, Gap, WrongRole, HistoryFull, NoEntry, NoMemory}
-use Rattle.dory_dpf.specs.declared.tree.Correction.{Correction}
 use Rattle.dory_dpf.specs.PointKey.{PointKey, IsKey, IsKeyOf, form_with, last_bytes, last_len, levels_of}
-use Rattle.dory_dpf.specs.KeyBytes.{bytes_of_key, control_byte, correction_bytes}
+use Rattle.dory_dpf.specs.KeyBytes.{bytes_of_key, correction_bytes}
+use Rattle.dory_dpf.proofs.Spelled.{length-corrections}
 use Rattle.dory_fields.specs.Bytes.{four}
 use Rattle.dory_fields.specs.Packing.{packed}
 use Rattle.dory_fields.proofs.Packing.{length-packed}
@@ -35,13 +35,6 @@ use Rattle.dory_wire.proofs.Fields.{length-tag_bytes}
 use Rattle.dory_wire.proofs.FrameLaws.{message_in_frame}
 use Rattle.dory_wire.proofs.RequestLaws.{read_again_request}
 use Rattle.dory_wire.proofs.ReplyLaws.{read_again_reply}
-
-length-corrections : (cs : List Correction) → All (λ c. length c.seed ≡ 16) cs → length (flat_map correction_bytes cs) ≡ 17 * length cs
-length-corrections [] all = refl
-length-corrections (c ∷ cs) all =
-    let one : length (correction_bytes c) ≡ 17 = omega (arith, length-append c.seed (control_byte c.left_bit c.right_bit ∷ []), all 0 c (omega arith)) in
-    let more = length-corrections cs (λ k d h. all (suc k) d (omega arith)) in
-    ap length (flat_map-cons correction_bytes c cs) ∙ omega (arith, length-append (correction_bytes c) (flat_map correction_bytes cs), one, more)
 
 -- a key has a correction for each level, at most eleven
 few_levels : (word : Option (List ℕ)) (depth : ℕ) → depth ≤ 11 → levels_of (form_with word) depth ≤ 11

@@ -7,7 +7,7 @@ use Rattle.std.proofs.lemmas.List.{append-nil}
 use Rattle.dory_base.specs.Dims.{Dims, IsDims}
 use Rattle.dory_base.specs.declared.ids.AskId.{AskId}
 use Rattle.dory_dpf.specs.PointKey.{PointKey, IsKeyOf}
-use Rattle.dory_dpf.specs.KeyBytes.{bytes_of_key}
+use Rattle.dory_dpf.specs.KeyBytes.{bytes_of_key, key_at}
 use Rattle.dory_fields.specs.Bytes.{four, IsBytes}
 use Rattle.dory_fields.specs.Reading.{Read, many_at, ◌>>=◌, number_at, tested_at, byte_at}
 use Rattle.dory_fields.proofs.Fields.{in_range, range_met, IsBytes-rest, bind_ok, ok_is, Takes, Takes-then, wide32, number_takes, number_again, tested_takes, tested_again, byte_takes, byte_again}
@@ -17,7 +17,7 @@ use Rattle.dory_wire.specs.declared.message.Request.{Request}
 use Rattle.dory_wire.specs.declared.fault.WireFault.{WireFault}
 use Rattle.dory_wire.specs.declared.fault.WireFault.TheVariants.{Kind}
 use Rattle.dory_wire.specs.Spelling.{ask, want, want_kind, spelling_of_request, form_of_keys, AreKeys, IsWant, IsRequest}
-use Rattle.dory_wire.specs.Reading.{Gives, ask_at, key_at, search_at, which_at, stage_at, entry_at, named_at, numbered_at, want_at, ended, request_at, request_of, is_count, is_number, is_depth, is_probes, is_form, is_asking}
+use Rattle.dory_wire.specs.Reading.{Gives, ask_at, search_at, which_at, stage_at, entry_at, named_at, numbered_at, want_at, ended, request_at, request_of, is_count, is_number, is_depth, is_probes, is_form, is_asking}
 use Rattle.dory_wire.proofs.Fields.{ask_takes, ask_again}
 use Rattle.dory_wire.proofs.Ranges.{ended_ok, choice_met}
 use Rattle.dory_wire.proofs.KeyFields.{form_is, form_met, keys_again, keys_take}

@@ -1,5 +1,5 @@
 -- Reading a message from left to right, field by field, up to the first fault.
-use Rattle.std.specs.Prelude.{ℕ, zero, suc, ◌≡◌, ◌+◌, ◌%◌, ◌==◌, ◌^◌, nat_le, Bool, if◌then◌else◌, List, [], ◌∷◌, length, take, drop, Option, Some, None, Result, Ok, Err}
+use Rattle.std.specs.Prelude.{ℕ, zero, suc, ◌≡◌, ◌+◌, ◌==◌, ◌^◌, nat_le, Bool, if◌then◌else◌, List, [], ◌∷◌, length, take, drop, Option, Some, None, Result, Ok, Err}
 use Rattle.std.specs.Int.{w16, w32, w64, from_be_bytes, is_in_range}
 use Rattle.dory_base.specs.TagBytes.{tag_number}
 use Rattle.dory_base.specs.declared.ids.AskId.{AskId}
@@ -17,8 +17,7 @@ use Rattle.dory_base.specs.declared.refusal.Refusal.TheVariants.{NoFolder, Shape
 use Rattle.dory_fields.specs.declared.fault.FieldFault.{FieldFault}
 use Rattle.dory_fields.specs.declared.fault.FieldFault.TheVariants.{CutShort, OutOfRange, NoMemory as FieldNoMemory}
 use Rattle.dory_fields.specs.Reading.{◌>>=◌, Read, place, field_at, ranged, number_at, tested_at, byte_at, bits_at, many_at}
-use Rattle.dory_dpf.specs.declared.tree.Correction.{Correction}
-use Rattle.dory_dpf.specs.PointKey.{PointKey, levels_of}
+use Rattle.dory_dpf.specs.KeyBytes.{key_at}
 use Rattle.dory_wire.specs.declared.message.Want.{Want}
 use Rattle.dory_wire.specs.declared.message.Want.TheVariants.{Latest, Search, Which, Stage, Order, Follow}
 use Rattle.dory_wire.specs.declared.message.What.{What}
@@ -68,18 +67,6 @@ is_lines = is_in_range 0 4096
 -- the form of keys: 1, or 2 for the shorter ones
 abbrev pub is_form : ℕ → Bool
 is_form = is_in_range 1 2
-
--- the depth of a key, which is that of the shape
-abbrev pub is_depth_of : ℕ → ℕ → Bool
-is_depth_of depth = is_in_range depth depth
-
--- the party of a key
-abbrev pub is_party : ℕ → Bool
-is_party = is_in_range 0 1
-
--- the control bits of a correction: the left one is the lowest, and the right one the next
-abbrev pub is_control : ℕ → Bool
-is_control = is_in_range 0 3
 
 -- a slot from this one on
 abbrev pub is_slot : ℕ → ℕ → Bool
@@ -140,31 +127,6 @@ unfoldable pub counted_at : {A : Type 0} → (ℕ → A) → ℕ → List ℕ �
 counted_at make total bytes = do
   length ← tested_at w32 is_count total bytes
   Ok (make length.0, length.1)
-
--- a correction: its seed, then its control bits
-unfoldable pub correction_at : ℕ → List ℕ → Read Correction
-correction_at total bytes = do
-  seed ← field_at 16 total bytes
-  control ← byte_at is_control total seed.1
-  Ok (record { seed = seed.0; left_bit = control.0 % 2 == 1; right_bit = nat_le 2 control.0 }, control.1)
-
--- the last word of a key, which a key of form 2 has
-unfoldable pub last_at : ℕ → ℕ → List ℕ → Read (Option (List ℕ))
-last_at form total bytes =
-    if form == 1 then Ok (None, bytes)
-    else (do
-      word ← field_at 16 total bytes
-      Ok (Some word.0, word.1))
-
--- a key of this form and depth: its depth, its party, its seed, the corrections of its levels, and its last word
-unfoldable pub key_at : ℕ → ℕ → ℕ → List ℕ → Read PointKey
-key_at form depth total bytes = do
-  same ← byte_at (is_depth_of depth) total bytes
-  party ← byte_at is_party total same.1
-  seed ← field_at 16 total party.1
-  corrections ← many_at correction_at (levels_of form depth) total seed.1
-  last ← last_at form total corrections.1
-  Ok (record { depth = depth; party = party.0; seed = seed.0; corrections = corrections.0; last = last.0 }, last.1)
 
 -- what a search asks: the version, the shape, the form of the keys, and a key for each probe
 unfoldable pub search_at : ℕ → List ℕ → Read Want

@@ -8,7 +8,8 @@ use Rattle.dory_base.specs.declared.plan.Plan.TheVariants.{Again, Fresh}
 use Rattle.dory_base.specs.declared.refusal.Refusal.{Refusal}
 use Rattle.dory_base.specs.declared.refusal.Refusal.TheVariants.{NoMemory}
 use Rattle.dory_base.specs.Log.{Log, look_stage, look_order, look_follow, which}
-use Rattle.dory_base.specs.Step.{Event, State, log_of, event_of_stage, event_of_plan, after_maybe}
+use Rattle.dory_base.specs.declared.event.Event.{Event}
+use Rattle.dory_base.specs.Step.{State, log_of, event_of_stage, event_of_plan, after_maybe}
 use Rattle.dory_wire.specs.declared.message.Want.{Want}
 use Rattle.dory_wire.specs.declared.message.Want.TheVariants.{Latest, Search, Which, Stage, Order, Follow}
 use Rattle.dory_wire.specs.declared.message.What.{What}

@@ -1,4 +1,6 @@
 //! Bytes into messages: what is read is in the one spelling, and each fault is the first from the left.
+//!
+//! `whole_request` and `whole_reply` stand apart from them: each has the exact clause alone, of which the others are proved.
 ghost use Rattle.std.specs.Prelude.{◌≡◌, IfOk, Ok};
 ghost use Rattle.dory_wire.specs.declared.message.Request.{Request as RequestOf};
 ghost use Rattle.dory_wire.specs.declared.message.Reply.{Reply as ReplyOf};

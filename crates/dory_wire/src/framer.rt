@@ -73,7 +73,8 @@ impl Framer {
         self.append(piece)
     }
 
-    /// Appends bytes to those held, or changes nothing.
+    /// Appends bytes to those held, or changes nothing. It stands apart from `feed`, whose clause on all that was fed is
+    /// proved of these two.
     fn append(&mut self, piece: &[u8]) -> Result<(), NoMemory>
         requires { length piece.now ≤ 65536 }
         ensures ok { OnOk result (self.new ≡ self.old ++ piece.now) }
@@ -106,7 +107,8 @@ impl Framer {
         self.take_front(alloc)
     }
 
-    /// Takes out the message at the front.
+    /// Takes out the message at the front. It stands apart from `next_message`, whose clause on all that was fed is proved
+    /// of these.
     fn take_front(&mut self, alloc: Global) -> Result<Option<Vec<u8>>, FrameFault>
         ensures takes { TakesOut self.old self.new result }
         ensures frame { IfOk result (λ found. IfSome found (λ message. IsMessage message.items × (self.old ≡ frame_of message.items ++ self.new))) }

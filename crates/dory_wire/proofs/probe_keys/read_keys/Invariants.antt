@@ -1,5 +1,5 @@
 use Rattle.dory_fields.proofs.Many.{ReadsMany}
-use Rattle.dory_wire.specs.Reading.{key_at}
+use Rattle.dory_dpf.specs.KeyBytes.{key_at}
 use Rattle.dory_wire.proofs.probe_keys.read_keys.Given as goal
 
 abbrev pub invariant-loop : goal.invariant-loop

@@ -1,13 +1,16 @@
-use Rattle.std.proofs.Common.{ℕ, ◌<◌, ◌∙◌, List, length, take, refl, ap, arith}
+use Rattle.std.proofs.Common.{ℕ, ◌<◌, ◌∙◌, List, length, take, Ok, refl, ap, arith}
 use Rattle.std.proofs.Math.ListN.{length-set}
 use Rattle.std.proofs.lemmas.List.{take_more_set, take_all}
 use Rattle.std.proofs.lemmas.Result.{err_from_is_err_and}
 use Rattle.dory_base.specs.TagBytes.{tag_number}
+use Rattle.dory_fields.specs.Reading.{Read}
 use Rattle.dory_fields.proofs.Many.{many_go, many_fail, many_done}
 use Rattle.dory_wire.specs.Reading.{tag_at}
 use Rattle.dory_wire.proofs.Fields.{tag_reads, tag_fails}
-use Rattle.dory_wire.proofs.KeyFields.{read_as}
 use Rattle.dory_wire.proofs.staged.read_tags.Goals as goal
+
+abbrev read_as : List ℕ → List ℕ → Read (List ℕ)
+read_as tags rest = Ok (tags, rest)
 
 pub returns-in_err-field : goal.returns-in_err-field
 returns-in_err-field c =

@@ -1,4 +1,4 @@
-use Rattle.std.proofs.Common.{◌≡◌, Result, Ok, Err, IfOk, refl, sym, ◌∙◌}
+use Rattle.std.proofs.Common.{◌≡◌, Result, Ok, Err, IfOk, refl, sym, ◌∙◌, arith}
 use Rattle.dory_dpf.specs.declared.key_fault.KeyFault.{KeyFault}
 use Rattle.dory_dpf.specs.PointKey.{PointKey}
 use Rattle.dory_dpf.proofs.Spelled.{spelled, only}
@@ -10,7 +10,7 @@ if_ok (Err e) P f = tt
 
 pub returns-clause-spelled : goal.returns-clause-spelled
 returns-clause-spelled c =
-    if_ok c.read_key.result _ (λ key e. spelled c.args.form c.args.depth c.args.bytes.now key c.requires.form.0 c.requires.form.1 (sym c.read_key.ensures ∙ e))
+    if_ok c.whole_key.result _ (λ key e. spelled c.args.form c.args.depth c.args.bytes.now key c.requires.form.0 c.requires.form.1 c.requires.depth.0 c.requires.depth.1 (λ i. omega (arith, c.type_inv.bytes i)) (sym c.whole_key.ensures ∙ e))
 
 pub returns-clause-only : goal.returns-clause-only
-returns-clause-only c key is e f g = c.read_key.ensures ∙ only c.args.form c.args.depth c.args.bytes.now key is e f g
+returns-clause-only c key is e f g = c.whole_key.ensures ∙ only c.args.form c.args.depth c.args.bytes.now key is e f g

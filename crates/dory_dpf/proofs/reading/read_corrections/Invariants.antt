@@ -1,7 +1,7 @@
 use Rattle.std.proofs.Common.{◌≡◌, length, take}
 use Rattle.dory_fields.proofs.Many.{ReadsMany}
-use Rattle.dory_wire.specs.Reading.{correction_at}
-use Rattle.dory_wire.proofs.probe_keys.read_corrections.Given as goal
+use Rattle.dory_dpf.specs.KeyBytes.{correction_at}
+use Rattle.dory_dpf.proofs.reading.read_corrections.Given as goal
 
 abbrev pub invariant-loop-level : goal.invariant-loop-level
 invariant-loop-level l = record {
