@@ -1,4 +1,4 @@
--- Beside an honest reply a pair without a fault is right, or is the forgery.
+-- Beside an honest reply a pair without a fault is right and the other reply honest, or that is the forgery.
 use Rattle.std.proofs.Common.{◌≡◌, ℕ, ◌+◌, ◌<◌, ◌^◌, ◌&&◌, Bool, true, false, cond, List, [], ◌∷◌, ◌++◌, length, map, filter, get_or, Ok, Err, Result, refl, sym, ap, ◌∙◌, subst, arith, inl, inr, ◌⊎◌, ⊎_elim, append_assoc, length-append}
 use Rattle.std.specs.Prelude.{bit_xor, ◌==◌, Some, IfOk}
 use Rattle.std.specs.List.{list_all, range_with_len, AllByRecursion, AllZip}
@@ -30,7 +30,7 @@ use Rattle.dory_verify.specs.declared.fault.CheckFault.TheVariants as fault
 use Rattle.dory_verify.specs.Tags.{xor_bits, line_tag, tag_sum}
 use Rattle.dory_verify.specs.Listing.{crossed, is_line_listed, listed_from, Lists}
 use Rattle.dory_verify.specs.Answer.{IsRising, numbers, holds_all, matching, IsAnswer}
-use Rattle.dory_verify.specs.Forgery.{Probe, IsForgeryOf, IsForgery, probes_of}
+use Rattle.dory_verify.specs.Forgery.{Probe, IsHonest, IsForgeryOf, IsForgery, probes_of}
 use Rattle.dory_verify.specs.SideBySide.{cells_at, Both, other_of, IsTagged, HasPointPair, IsChecked, IsShown}
 use Rattle.dory_query.specs.Pairs.{ArePairs}
 use Rattle.dory_verify.specs.Honest.{IsFoundIn, found_by, IsSearch, IsRightOrForged}
@@ -66,7 +66,7 @@ verdict probe got want = cond (got == want) (Ok tt) (Err (fault.TagSum probe got
 adds_comm : (keys : FolderKeys) (places : List Place) (probe c : ℕ) (a b : Sum) → adds_up keys places probe c a b ≡ adds_up keys places probe c b a
 adds_comm keys places probe c a b = λ i. verdict probe (xor_comm a.tag b.tag i) (tag_sum keys c places (bits_comm a.bits b.bits i))
 
-all_add_comm : (keys : FolderKeys) (places : List Place) (probe : ℕ) (columns : List ℕ) (xs ys : List Sum) → all_add_up keys places probe columns xs ys ≡ all_add_up keys places probe columns ys xs
+pub all_add_comm : (keys : FolderKeys) (places : List Place) (probe : ℕ) (columns : List ℕ) (xs ys : List Sum) → all_add_up keys places probe columns xs ys ≡ all_add_up keys places probe columns ys xs
 all_add_comm keys places probe [] xs ys = refl
 all_add_comm keys places probe (c ∷ columns) [] [] = refl
 all_add_comm keys places probe (c ∷ columns) [] (b ∷ ys) = refl
@@ -81,7 +81,7 @@ pair_comm m c us vs is = record {
   differ = λ x h. bit_comm (get_or vs x false) (get_or us x false) ∙ is.differ x h;
 }
 
-pairs_comm : (m : ℕ) (columns : List ℕ) (xs ys : List (List Bool)) → ArePairs m columns xs ys → ArePairs m columns ys xs
+pub pairs_comm : (m : ℕ) (columns : List ℕ) (xs ys : List (List Bool)) → ArePairs m columns xs ys → ArePairs m columns ys xs
 pairs_comm m [] [] [] h = tt
 pairs_comm m [] [] (b ∷ ys) h = absurd h
 pairs_comm m [] (a ∷ xs) ys h = absurd h
@@ -91,13 +91,13 @@ pairs_comm m (c ∷ columns) (a ∷ xs) (b ∷ ys) h = (h.0, pair_comm m c a b h
 
 -- ---- the probes of both sides
 
-abbrev boths : List ℕ → List (List Bool) → List (List Bool) → List Both
+abbrev pub boths : List ℕ → List (List Bool) → List (List Bool) → List Both
 boths [] mine other = []
 boths (c ∷ columns) [] other = []
 boths (c ∷ columns) (m ∷ mine) [] = []
 boths (c ∷ columns) (m ∷ mine) (o ∷ other) = record { column = c; mine = m; other = o } ∷ boths columns mine other
 
-asked : (m : ℕ) (columns : List ℕ) (mine other : List (List Bool)) → ArePairs m columns mine other → AllByRecursion (HasPointPair m) (boths columns mine other)
+pub asked : (m : ℕ) (columns : List ℕ) (mine other : List (List Bool)) → ArePairs m columns mine other → AllByRecursion (HasPointPair m) (boths columns mine other)
 asked m [] [] [] h = tt
 asked m [] [] (o ∷ other) h = absurd h
 asked m [] (x ∷ mine) other h = absurd h
@@ -105,7 +105,7 @@ asked m (c ∷ columns) [] other h = absurd h
 asked m (c ∷ columns) (x ∷ mine) [] h = absurd h
 asked m (c ∷ columns) (x ∷ mine) (o ∷ other) h = (record { within = h.0; pair = h.1 }, asked m columns mine other h.2)
 
-probes_are : (m : ℕ) (columns : List ℕ) (mine other : List (List Bool)) → ArePairs m columns mine other → map other_of (boths columns mine other) ≡ probes_of columns other
+pub probes_are : (m : ℕ) (columns : List ℕ) (mine other : List (List Bool)) → ArePairs m columns mine other → map other_of (boths columns mine other) ≡ probes_of columns other
 probes_are m [] [] [] h = refl
 probes_are m [] [] (o ∷ other) h = absurd h
 probes_are m [] (x ∷ mine) other h = absurd h
@@ -114,7 +114,7 @@ probes_are m (c ∷ columns) (x ∷ mine) [] h = absurd h
 probes_are m (c ∷ columns) (x ∷ mine) (o ∷ other) h = ap (λ (ps : List Probe). record { column = c; shares = o } ∷ ps) (probes_are m columns mine other h.2)
 
 -- tags that add up at every probe
-checked : (keys : FolderKeys) (m : ℕ) (slots : Slots) (probe : ℕ) (columns : List ℕ) (mine other : List (List Bool)) (given : List Sum) → ArePairs m columns mine other → length given ≡ length columns
+pub checked : (keys : FolderKeys) (m : ℕ) (slots : Slots) (probe : ℕ) (columns : List ℕ) (mine other : List (List Bool)) (given : List Sum) → ArePairs m columns mine other → length given ≡ length columns
     → AllByRecursion (IsSum (length (manifest_of slots))) given → all_add_up keys (manifest_of slots) probe columns (map (sum_of slots) mine) given ≡ Ok tt
     → AllZip (IsChecked (line_tag keys) slots) (boths columns mine other) given
 checked keys m slots probe [] [] [] [] h n all is = tt
@@ -141,6 +141,18 @@ shown m slots (c ∷ columns) [] other given h all = absurd h
 shown m slots (c ∷ columns) (x ∷ mine) [] given h all = absurd h
 shown m slots (c ∷ columns) (x ∷ mine) (o ∷ other) [] h all = absurd all
 shown m slots (c ∷ columns) (x ∷ mine) (o ∷ other) (g ∷ given) h all = λ i. all.0 i ∷ shown m slots columns mine other given h.2 all.1 i
+
+-- sums that are honest at every probe are an honest domain's
+honest_sums : (m : ℕ) (slots : Slots) (columns : List ℕ) (mine other : List (List Bool)) (given : List Sum) → ArePairs m columns mine other → AllZip (IsHonest slots) (probes_of columns other) given
+    → given ≡ map (sum_of slots) other
+honest_sums m slots [] [] [] [] h all = refl
+honest_sums m slots [] [] [] (g ∷ given) h all = absurd all
+honest_sums m slots [] [] (o ∷ other) given h all = absurd h
+honest_sums m slots [] (x ∷ mine) other given h all = absurd h
+honest_sums m slots (c ∷ columns) [] other given h all = absurd h
+honest_sums m slots (c ∷ columns) (x ∷ mine) [] given h all = absurd h
+honest_sums m slots (c ∷ columns) (x ∷ mine) (o ∷ other) [] h all = absurd all
+honest_sums m slots (c ∷ columns) (x ∷ mine) (o ∷ other) (g ∷ given) h all = λ i. all.0 i ∷ honest_sums m slots columns mine other given h.2 all.1 i
 
 within : (m : ℕ) (columns : List ℕ) (mine other : List (List Bool)) → ArePairs m columns mine other → AllByRecursion (λ c. c < m) columns
 within m [] mine other h = tt
@@ -191,16 +203,18 @@ beside : (keys : FolderKeys) (shape : Dims) (history : List Entry) (version : �
     → IsSearch keys shape history version word columns mine other → length given ≡ length columns → AllByRecursion (IsSum (length (manifest_of (table_of (version_of version history))))) given
     → all_add_up keys (manifest_of (table_of (version_of version history))) 0 columns (map (sum_of (table_of (version_of version history))) mine) given ≡ Ok tt
     → IsRising (listed_from keys columns (crossed (map (sum_of (table_of (version_of version history))) mine) given) 0 (manifest_of (table_of (version_of version history)))) docs
-    → IsRising (matching keys history version (positions_of keys shape word)) docs ⊎ IsForgery keys history version columns other given
+    → (IsRising (matching keys history version (positions_of keys shape word)) docs × (given ≡ map (sum_of (table_of (version_of version history))) other)) ⊎ IsForgery keys history version columns other given
 beside keys shape history version word columns mine other given docs search n all is rising =
     ⊎_elim
     (λ (f : IsForgeryOf (line_tag keys) slots (map other_of bs) given). inr (subst (λ (ps : List Probe). IsForgeryOf (line_tag keys) slots ps given) (probes_are (2 ^ shape.depth) columns mine other search.pairs) f))
-    (λ (s : AllZip (IsShown slots) bs given).
+    (λ (s : AllZip (IsHonest slots) (map other_of bs) given × AllZip (IsShown slots) bs given).
     let listed : listed_from keys columns (crossed (map (sum_of slots) mine) given) 0 (manifest_of slots) ≡ matching keys history version (positions_of keys shape word) =
-    ap (λ (bits : List (List Bool)). listed_from keys columns bits 0 (manifest_of slots)) (shown (2 ^ shape.depth) slots columns mine other given search.pairs s)
+    ap (λ (bits : List (List Bool)). listed_from keys columns bits 0 (manifest_of slots)) (shown (2 ^ shape.depth) slots columns mine other given search.pairs s.1)
     ∙ listing keys (line_tag keys) (2 ^ shape.depth) columns (within (2 ^ shape.depth) columns mine other search.pairs) [] (live_of slots) tagged
     ∙ ap (matching keys history version) search.columns_are in
-    inl (subst (λ (ds : List ℕ). IsRising ds docs) listed rising))
+    let honest : AllZip (IsHonest slots) (probes_of columns other) given =
+    subst (λ (ps : List Probe). AllZip (IsHonest slots) ps given) (probes_are (2 ^ shape.depth) columns mine other search.pairs) s.0 in
+    inl (subst (λ (ds : List ℕ). IsRising ds docs) listed rising, honest_sums (2 ^ shape.depth) slots columns mine other given search.pairs honest))
     (verified (line_tag keys) (2 ^ shape.depth) slots bs given tagged (asked (2 ^ shape.depth) columns mine other search.pairs) (checked keys (2 ^ shape.depth) slots 0 columns mine other given search.pairs n all is))
   where
     slots : Slots
@@ -213,7 +227,7 @@ beside keys shape history version word columns mine other given docs search n al
     tagged = all_tagged keys shape (version_of version history) (entries_taken shape version history search.history_is.entries) search.sealed
 
 -- one frame has one found
-same_in : (frame : List ℕ) (f g : Found) → IsFoundIn frame f → IsFoundIn frame g → f ≡ g
+pub same_in : (frame : List ℕ) (f g : Found) → IsFoundIn frame f → IsFoundIn frame g → f ≡ g
 same_in frame f g (r, p, a) (s, q, b) = by r s (sym p ∙ q) a b
   where
     some_reply : Reply → Rattle.std.specs.Prelude.Option Reply
@@ -225,25 +239,35 @@ same_in frame f g (r, p, a) (s, q, b) = by r s (sym p ∙ q) a b
     by : (r s : Reply) → Some r ≡ Some s → r.what ≡ Finds f → s.what ≡ Finds g → f ≡ g
     by r s e a b = let same : r ≡ s = cc in let w : Finds f ≡ Finds g = sym a ∙ ap (λ (x : Reply). x.what) same ∙ b in cc
 
+-- honest sums under this version and its manifest are all that an honest domain would have found
+whole : (keys : FolderKeys) (history : List Entry) (version : ℕ) (columns : List ℕ) (other : List (List Bool)) (f : Found) (docs all : List ℕ)
+    → f.version ≡ version → f.manifest ≡ manifest_of (table_of (version_of version history))
+    → (IsRising all docs × (f.sums ≡ map (sum_of (table_of (version_of version history))) other)) ⊎ IsForgery keys history version columns other f.sums
+    → (IsRising all docs × (f ≡ found_by history version other)) ⊎ IsForgery keys history version columns other f.sums
+whole keys history version columns other f docs all named lines (inr forged) = inr forged
+whole keys history version columns other f docs all named lines (inl (right, sums)) =
+    inl (right, λ i. record { version = named i; manifest = lines i; sums = sums i })
+
 -- the lead is honest
 pub right_beside_lead : (keys : FolderKeys) (shape : Dims) (history : List Entry) (version seen : ℕ) (first second : AskId) (word columns : List ℕ) (mine other : List (List Bool)) (lead follow : List ℕ) (l f : Found) (answer : Answer)
     → IsSearch keys shape history version word columns mine other → IsBytes lead → IsBytes follow → IsFoundIn lead (found_by history version mine)
     → first_fault_of keys columns version seen first second lead follow ≡ Ok (l, f) → Lists keys columns version l f answer
-    → IsAnswer keys shape history version word answer.docs ⊎ IsForgery keys history version columns other f.sums
+    → (IsAnswer keys shape history version word answer.docs × (f ≡ found_by history version other)) ⊎ IsForgery keys history version columns other f.sums
 right_beside_lead keys shape history version seen first second word columns mine other lead follow l f answer search lead_bytes follow_bytes honest is lists =
     let ok = checked_ok keys columns version seen first second lead follow l f lead_bytes follow_bytes is in
     let l_is : l ≡ found_by history version mine = same_in lead l (found_by history version mine) ok.found.in_lead honest in
     let lines : f.manifest ≡ manifest_of (table_of (version_of version history)) = sym ok.one.manifest ∙ ap (λ (x : Found). x.manifest) l_is in
-    beside keys shape history version word columns mine other f.sums (numbers answer.docs) search ok.one.follow_count
+    whole keys history version columns other f (numbers answer.docs) (matching keys history version (positions_of keys shape word)) ok.one.follow_version lines
+    (beside keys shape history version word columns mine other f.sums (numbers answer.docs) search ok.one.follow_count
     (subst (λ (ps : List Place). AllByRecursion (IsSum (length ps)) f.sums) lines ok.found.follow_is.sums)
     (subst (λ (x : Found). all_add_up keys x.manifest 0 columns x.sums f.sums ≡ Ok tt) l_is ok.tags)
-    (subst (λ (x : Found). IsRising (listed_from keys columns (crossed x.sums f.sums) 0 x.manifest) (numbers answer.docs)) l_is lists.docs)
+    (subst (λ (x : Found). IsRising (listed_from keys columns (crossed x.sums f.sums) 0 x.manifest) (numbers answer.docs)) l_is lists.docs))
 
 -- the follower is honest
 pub right_beside_follow : (keys : FolderKeys) (shape : Dims) (history : List Entry) (version seen : ℕ) (first second : AskId) (word columns : List ℕ) (other mine : List (List Bool)) (lead follow : List ℕ) (l f : Found) (answer : Answer)
     → IsSearch keys shape history version word columns other mine → IsBytes lead → IsBytes follow → IsFoundIn follow (found_by history version mine)
     → first_fault_of keys columns version seen first second lead follow ≡ Ok (l, f) → Lists keys columns version l f answer
-    → IsAnswer keys shape history version word answer.docs ⊎ IsForgery keys history version columns other l.sums
+    → (IsAnswer keys shape history version word answer.docs × (l ≡ found_by history version other)) ⊎ IsForgery keys history version columns other l.sums
 right_beside_follow keys shape history version seen first second word columns other mine lead follow l f answer search lead_bytes follow_bytes honest is lists =
     let ok = checked_ok keys columns version seen first second lead follow l f lead_bytes follow_bytes is in
     let f_is : f ≡ found_by history version mine = same_in follow f (found_by history version mine) ok.found.in_follow honest in
@@ -259,10 +283,11 @@ right_beside_follow keys shape history version seen first second word columns ot
     let docs : IsRising (listed_from keys columns (crossed f.sums l.sums) 0 (manifest_of (table_of (version_of version history)))) (numbers answer.docs) =
     subst (λ (bits : List (List Bool)). IsRising (listed_from keys columns bits 0 (manifest_of (table_of (version_of version history)))) (numbers answer.docs)) (crossed_comm l.sums f.sums)
     (subst (λ (ps : List Place). IsRising (listed_from keys columns (crossed l.sums f.sums) 0 ps) (numbers answer.docs)) lines lists.docs) in
-    beside keys shape history version word columns mine other l.sums (numbers answer.docs) swapped ok.one.lead_count
+    whole keys history version columns other l (numbers answer.docs) (matching keys history version (positions_of keys shape word)) ok.one.lead_version lines
+    (beside keys shape history version word columns mine other l.sums (numbers answer.docs) swapped ok.one.lead_count
     (subst (λ (ps : List Place). AllByRecursion (IsSum (length ps)) l.sums) lines ok.found.lead_is.sums)
     (subst (λ (x : Found). all_add_up keys (manifest_of (table_of (version_of version history))) 0 columns x.sums l.sums ≡ Ok tt) f_is tags)
-    (subst (λ (x : Found). IsRising (listed_from keys columns (crossed x.sums l.sums) 0 (manifest_of (table_of (version_of version history)))) (numbers answer.docs)) f_is docs)
+    (subst (λ (x : Found). IsRising (listed_from keys columns (crossed x.sums l.sums) 0 (manifest_of (table_of (version_of version history)))) (numbers answer.docs)) f_is docs))
 
 -- the same of what the checks answer
 pub answered_beside_lead : (keys : FolderKeys) (shape : Dims) (history : List Entry) (version seen : ℕ) (first second : AskId) (word columns : List ℕ) (mine other : List (List Bool)) (lead follow : List ℕ) (result : Result Answer VerifyError)
@@ -272,7 +297,8 @@ pub answered_beside_lead : (keys : FolderKeys) (shape : Dims) (history : List En
 answered_beside_lead keys shape history version seen first second word columns mine other lead follow (Err e) verifies lead_bytes follow_bytes search honest = tt
 answered_beside_lead keys shape history version seen first second word columns mine other lead follow (Ok answer) (l, f, is, lists) lead_bytes follow_bytes search honest =
     ⊎_elim
-    (λ (right : IsAnswer keys shape history version word answer.docs). inl right)
+    (λ (right : IsAnswer keys shape history version word answer.docs × (f ≡ found_by history version other)).
+    inl (right.0, subst (IsFoundIn follow) right.1 (checked_ok keys columns version seen first second lead follow l f lead_bytes follow_bytes is).found.in_follow))
     (λ (forged : IsForgery keys history version columns other f.sums). inr (f, (checked_ok keys columns version seen first second lead follow l f lead_bytes follow_bytes is).found.in_follow, forged))
     (right_beside_lead keys shape history version seen first second word columns mine other lead follow l f answer search lead_bytes follow_bytes honest is lists)
 
@@ -283,6 +309,7 @@ pub answered_beside_follow : (keys : FolderKeys) (shape : Dims) (history : List 
 answered_beside_follow keys shape history version seen first second word columns other mine lead follow (Err e) verifies lead_bytes follow_bytes search honest = tt
 answered_beside_follow keys shape history version seen first second word columns other mine lead follow (Ok answer) (l, f, is, lists) lead_bytes follow_bytes search honest =
     ⊎_elim
-    (λ (right : IsAnswer keys shape history version word answer.docs). inl right)
+    (λ (right : IsAnswer keys shape history version word answer.docs × (l ≡ found_by history version other)).
+    inl (right.0, subst (IsFoundIn lead) right.1 (checked_ok keys columns version seen first second lead follow l f lead_bytes follow_bytes is).found.in_lead))
     (λ (forged : IsForgery keys history version columns other l.sums). inr (l, (checked_ok keys columns version seen first second lead follow l f lead_bytes follow_bytes is).found.in_lead, forged))
     (right_beside_follow keys shape history version seen first second word columns other mine lead follow l f answer search lead_bytes follow_bytes honest is lists)

@@ -9,3 +9,4 @@ pub mod Tagged
 pub mod Beside
 pub mod Passing
 pub mod Honesty
+pub mod Deciding

@@ -105,7 +105,7 @@ follow_counts m slots (c ∷ columns) (x ∷ mine) (o ∷ other) h = omega (arit
 
 -- ---- TagSum
 
-adds_is : (keys : FolderKeys) (places : List Place) (probe column : ℕ) (l f : Sum) → bit_xor l.tag f.tag ≡ tag_sum keys column places (xor_bits l.bits f.bits) → adds_up keys places probe column l f ≡ Ok tt
+pub adds_is : (keys : FolderKeys) (places : List Place) (probe column : ℕ) (l f : Sum) → bit_xor l.tag f.tag ≡ tag_sum keys column places (xor_bits l.bits f.bits) → adds_up keys places probe column l f ≡ Ok tt
 adds_is keys places probe column l f e =
     let want = tag_sum keys column places (xor_bits l.bits f.bits) in
     ap (λ b. cond b (Ok tt) (Err (fault.TagSum probe (bit_xor l.tag f.tag) want))) (ap (λ n. n == want) e ∙ eq-eqb want want refl)

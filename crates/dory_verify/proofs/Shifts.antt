@@ -1,9 +1,10 @@
--- A reply that passes the tags beside an honest one shows the cells, or is a forgery.
+-- A reply that passes the tags beside an honest one is honest and shows the cells, or is a forgery.
 use Rattle.std.proofs.Common.{◌≡◌, ℕ, ◌<◌, Bool, true, false, List, [], ◌∷◌, length, map, get_or, refl, ap, sym, ◌∙◌, arith, cond, subst, inl, inr, ◌⊎◌, ⊎_elim, ne_eqb, eq-eqb}
 use Rattle.std.specs.Prelude.{bit_xor}
 use Rattle.std.specs.List.{flat_map, AllByRecursion, AllZip}
-use Rattle.std.specs.Int.Bits.{xor_zero_l}
+use Rattle.std.specs.Int.Bits.{xor_assoc, xor_self, xor_zero_l, xor_zero_r}
 use Rattle.std.proofs.lemmas.List.{length-map}
+use Rattle.std.proofs.lemmas.Nat.{xor_comm}
 use Rattle.dory_base.specs.Xor.{xor}
 use Rattle.dory_base.specs.PointPair.{IsPointPair}
 use Rattle.dory_base.specs.declared.found.Place.{Place}
@@ -13,7 +14,7 @@ use Rattle.dory_base.specs.Sum.{row_of, tags_of, selected, parity, xor_all, sum_
 use Rattle.dory_base.proofs.Selected.{xor_all-append, swap_middle}
 use Rattle.dory_verify.specs.SideBySide.{IsTagged, cells_at, AddUp, ShowsCells, Both, other_of, HasPointPair, IsChecked, IsShown}
 use Rattle.dory_verify.specs.Tags.{xor_bits, line_tags}
-use Rattle.dory_verify.specs.Forgery.{Probe, flips_of, both_tags, flips, IsShifted, SomeFlip, IsForgeryOf}
+use Rattle.dory_verify.specs.Forgery.{Probe, flips_of, both_tags, IsHonest, flips, IsShifted, SomeFlip, IsForgeryOf}
 use Rattle.dory_verify.proofs.TagLaws.{DifferAt, cancel, tags_differ, point_selected, point_parity, bit_cancel}
 
 abbrev places : List Live → List Place
@@ -74,15 +75,25 @@ sums_add tag m c slots us vs all l pair =
     tags_point tag m us vs c (live_of slots) all pair.lead_has pair.follow_has l (pair_differs m c us vs pair l)
     ∙ ap (λ (bs : List Bool). xor_all (line_tags (tag c) (places (live_of slots)) bs)) (sym (bits_show tag m c slots us vs all l pair))
 
+-- the tags of the lines that two sums show beside mine differ by both tags of each line that one of them flips
+lines_differ : (tag : ℕ → Place → Bool → ℕ) (c : ℕ) (slots : Slots) (mine : List Bool) (p : Probe) (given : Sum) → length given.bits ≡ length (manifest_of slots)
+    → bit_xor (xor_all (line_tags (tag c) (manifest_of slots) (xor_bits (sum_of slots mine).bits given.bits))) (xor_all (line_tags (tag c) (manifest_of slots) (xor_bits (sum_of slots mine).bits (sum_of slots p.shares).bits)))
+    ≡ xor_all (map (both_tags (tag c)) (flips slots p given))
+lines_differ tag c slots mine p given n =
+    let ls : List Live = live_of slots in
+    let us : List Bool = bits_by ls mine in
+    let vs : List Bool = bits_by ls p.shares in
+    tags_differ (tag c) (places ls) (xor_bits us given.bits) (xor_bits us vs)
+    (length-xor us given.bits (length-bits ls mine ∙ sym n) ∙ length-bits ls mine)
+    (length-xor us vs (length-bits ls mine ∙ sym (length-bits ls p.shares)) ∙ length-bits ls mine)
+    ∙ ap (λ (fs : List Place). xor_all (map (both_tags (tag c)) fs)) (flips_cancel (places ls) us given.bits vs (length-bits ls mine) n (length-bits ls p.shares))
+
 -- a sum whose tags add up beside an honest one is shifted by what it flips
 pub shifted : (tag : ℕ → Place → Bool → ℕ) (m c : ℕ) (slots : Slots) (mine : List Bool) (p : Probe) (given : Sum)
     → AllByRecursion (IsTagged tag m) (live_of slots) → p.column ≡ c → c < m → IsPointPair m c mine p.shares
     → length given.bits ≡ length (manifest_of slots) → AddUp tag slots c (sum_of slots mine) given → IsShifted tag slots p given
 shifted tag m c slots mine p given all is l pair n adds = subst (λ (k : ℕ). shift_is k) (sym is) whole
   where
-    ls : List Live
-    ls = live_of slots
-
     shift_is : ℕ → Type 0
     shift_is k = bit_xor given.tag (tag_by (live_of slots) p.shares) ≡ xor_all (map (both_tags (tag k)) (flips slots p given))
 
@@ -90,10 +101,30 @@ shifted tag m c slots mine p given all is l pair n adds = subst (λ (k : ℕ). s
     whole =
         sym (cancel (tag_by (live_of slots) mine) given.tag (tag_by (live_of slots) p.shares))
         ∙ (λ i. bit_xor (adds i) (sums_add tag m c slots mine p.shares all l pair i))
-        ∙ tags_differ (tag c) (places (live_of slots)) (xor_bits (bits_by (live_of slots) mine) given.bits) (xor_bits (bits_by (live_of slots) mine) (bits_by (live_of slots) p.shares))
-        (length-xor (bits_by (live_of slots) mine) given.bits (length-bits (live_of slots) mine ∙ sym n) ∙ length-bits (live_of slots) mine)
-        (length-xor (bits_by (live_of slots) mine) (bits_by (live_of slots) p.shares) (length-bits (live_of slots) mine ∙ sym (length-bits (live_of slots) p.shares)) ∙ length-bits (live_of slots) mine)
-        ∙ ap (λ (fs : List Place). xor_all (map (both_tags (tag c)) fs)) (flips_cancel (places (live_of slots)) (bits_by (live_of slots) mine) given.bits (bits_by (live_of slots) p.shares) (length-bits (live_of slots) mine) n (length-bits (live_of slots) p.shares))
+        ∙ lines_differ tag c slots mine p given n
+
+-- and its tags add up where it is shifted so
+pub adds_where_shifted : (tag : ℕ → Place → Bool → ℕ) (m c : ℕ) (slots : Slots) (mine : List Bool) (p : Probe) (given : Sum)
+    → AllByRecursion (IsTagged tag m) (live_of slots) → p.column ≡ c → c < m → IsPointPair m c mine p.shares
+    → length given.bits ≡ length (manifest_of slots) → IsShifted tag slots p given → AddUp tag slots c (sum_of slots mine) given
+adds_where_shifted tag m c slots mine p given all is l pair n shift =
+    let a : ℕ = tag_by (live_of slots) mine in
+    let w : ℕ = tag_by (live_of slots) p.shares in
+    let x : ℕ = xor_all (line_tags (tag c) (manifest_of slots) (xor_bits (sum_of slots mine).bits given.bits)) in
+    let y : ℕ = xor_all (line_tags (tag c) (manifest_of slots) (xor_bits (sum_of slots mine).bits (sum_of slots p.shares).bits)) in
+    let z : ℕ = xor_all (map (both_tags (tag c)) (flips slots p given)) in
+    let here : bit_xor given.tag w ≡ z = subst (λ (k : ℕ). bit_xor given.tag w ≡ xor_all (map (both_tags (tag k)) (flips slots p given))) is shift in
+    let pair_adds : bit_xor a w ≡ y = sums_add tag m c slots mine p.shares all l pair in
+    let apart : bit_xor x y ≡ z = lines_differ tag c slots mine p given n in
+    xor_comm a given.tag
+    ∙ sym (xor_zero_r (bit_xor given.tag a))
+    ∙ ap (bit_xor (bit_xor given.tag a)) (sym (xor_self w))
+    ∙ swap_middle given.tag a w w
+    ∙ (λ i. bit_xor (here i) (pair_adds i))
+    ∙ ap (λ (k : ℕ). bit_xor k y) (sym apart)
+    ∙ xor_assoc x y y
+    ∙ ap (bit_xor x) (xor_self y)
+    ∙ xor_zero_r x
 
 -- where nothing is flipped the two lists of bits are one
 same_bits : (ls : List Place) (us vs : List Bool) → length us ≡ length ls → length vs ≡ length ls → flips_of ls us vs ≡ [] → us ≡ vs
@@ -107,15 +138,35 @@ same_bits (l ∷ ls) (false ∷ us) (false ∷ vs) p q e = ap (λ bs. false ∷ 
 same_bits (l ∷ ls) (true ∷ us) (false ∷ vs) p q e = absurd (cc)
 same_bits (l ∷ ls) (false ∷ us) (true ∷ vs) p q e = absurd (cc)
 
--- so they do, where no line is flipped
-pub shows_cells : (tag : ℕ → Place → Bool → ℕ) (m c : ℕ) (slots : Slots) (mine : List Bool) (p : Probe) (given : Sum)
-    → AllByRecursion (IsTagged tag m) (live_of slots) → c < m → IsPointPair m c mine p.shares
-    → length given.bits ≡ length (manifest_of slots) → flips slots p given ≡ [] → ShowsCells slots c (sum_of slots mine) given
-shows_cells tag m c slots mine p given all l pair n none =
-    ap (xor_bits (bits_by (live_of slots) mine)) (same_bits (places (live_of slots)) given.bits (bits_by (live_of slots) p.shares) n (length-bits (live_of slots) p.shares) none)
-    ∙ bits_show tag m c slots mine p.shares all l pair
+-- a sum that flips no line is the honest one
+unflipped : (tag : ℕ → Place → Bool → ℕ) (m c : ℕ) (slots : Slots) (mine : List Bool) (p : Probe) (given : Sum)
+    → AllByRecursion (IsTagged tag m) (live_of slots) → p.column ≡ c → c < m → IsPointPair m c mine p.shares
+    → length given.bits ≡ length (manifest_of slots) → AddUp tag slots c (sum_of slots mine) given → flips slots p given ≡ [] → IsHonest slots p given
+unflipped tag m c slots mine p given all is l pair n adds none =
+    let would : Sum = sum_of slots p.shares in
+    let shift : bit_xor given.tag would.tag ≡ 0 =
+    shifted tag m c slots mine p given all is l pair n adds ∙ ap (λ (ls : List Place). xor_all (map (both_tags (tag p.column)) ls)) none in
+    let tags : given.tag ≡ would.tag =
+    sym (xor_zero_r given.tag)
+    ∙ ap (bit_xor given.tag) (sym (xor_self would.tag))
+    ∙ sym (xor_assoc given.tag would.tag would.tag)
+    ∙ ap (λ (k : ℕ). bit_xor k would.tag) shift
+    ∙ xor_zero_l would.tag in
+    let bits : given.bits ≡ would.bits = same_bits (places (live_of slots)) given.bits would.bits n (length-bits (live_of slots) p.shares) none in
+    (λ i. record { bits = bits i; tag = tags i })
 
-all_shifted : (tag : ℕ → Place → Bool → ℕ) (m : ℕ) (slots : Slots) (bs : List Both) (sums : List Sum) → AllByRecursion (IsTagged tag m) (live_of slots) → AllByRecursion (HasPointPair m) bs → AllZip (IsChecked tag slots) bs sums
+-- honest sums show the cells
+shows_all : (tag : ℕ → Place → Bool → ℕ) (m : ℕ) (slots : Slots) (bs : List Both) (sums : List Sum) → AllByRecursion (IsTagged tag m) (live_of slots) → AllByRecursion (HasPointPair m) bs
+    → AllZip (IsHonest slots) (map other_of bs) sums → AllZip (IsShown slots) bs sums
+shows_all tag m slots [] [] sealed all honest = tt
+shows_all tag m slots [] (s ∷ sums) sealed all honest = absurd honest
+shows_all tag m slots (b ∷ bs) [] sealed all honest = absurd honest
+shows_all tag m slots (b ∷ bs) (s ∷ sums) sealed all honest = (
+  ap (λ (x : Sum). xor_bits (bits_by (live_of slots) b.mine) x.bits) honest.0 ∙ bits_show tag m b.column slots b.mine b.other sealed all.0.within all.0.pair,
+  shows_all tag m slots bs sums sealed all.1 honest.1,
+)
+
+pub all_shifted : (tag : ℕ → Place → Bool → ℕ) (m : ℕ) (slots : Slots) (bs : List Both) (sums : List Sum) → AllByRecursion (IsTagged tag m) (live_of slots) → AllByRecursion (HasPointPair m) bs → AllZip (IsChecked tag slots) bs sums
     → AllZip (IsShifted tag slots) (map other_of bs) sums
 all_shifted tag m slots [] [] sealed all checked = tt
 all_shifted tag m slots [] (s ∷ sums) sealed all checked = absurd checked
@@ -123,20 +174,25 @@ all_shifted tag m slots (b ∷ bs) [] sealed all checked = absurd checked
 all_shifted tag m slots (b ∷ bs) (s ∷ sums) sealed all checked =
     (shifted tag m b.column slots b.mine (other_of b) s sealed refl all.0.within all.0.pair checked.0.count checked.0.adds, all_shifted tag m slots bs sums sealed all.1 checked.1)
 
-flips_or_shows : (tag : ℕ → Place → Bool → ℕ) (m : ℕ) (slots : Slots) (bs : List Both) (sums : List Sum) → AllByRecursion (IsTagged tag m) (live_of slots) → AllByRecursion (HasPointPair m) bs → AllZip (IsChecked tag slots) bs sums
-    → SomeFlip slots (map other_of bs) sums ⊎ AllZip (IsShown slots) bs sums
-flips_or_shows tag m slots [] [] sealed all checked = inr tt
-flips_or_shows tag m slots [] (s ∷ sums) sealed all checked = absurd checked
-flips_or_shows tag m slots (b ∷ bs) [] sealed all checked = absurd checked
-flips_or_shows tag m slots (b ∷ bs) (s ∷ sums) sealed all checked = by (flips slots (other_of b) s) refl (flips_or_shows tag m slots bs sums sealed all.1 checked.1)
+flips_or_honest : (tag : ℕ → Place → Bool → ℕ) (m : ℕ) (slots : Slots) (bs : List Both) (sums : List Sum) → AllByRecursion (IsTagged tag m) (live_of slots) → AllByRecursion (HasPointPair m) bs → AllZip (IsChecked tag slots) bs sums
+    → SomeFlip slots (map other_of bs) sums ⊎ AllZip (IsHonest slots) (map other_of bs) sums
+flips_or_honest tag m slots [] [] sealed all checked = inr tt
+flips_or_honest tag m slots [] (s ∷ sums) sealed all checked = absurd checked
+flips_or_honest tag m slots (b ∷ bs) [] sealed all checked = absurd checked
+flips_or_honest tag m slots (b ∷ bs) (s ∷ sums) sealed all checked = by (flips slots (other_of b) s) refl (flips_or_honest tag m slots bs sums sealed all.1 checked.1)
   where
-    by : (fs : List Place) → flips slots (other_of b) s ≡ fs → SomeFlip slots (map other_of bs) sums ⊎ AllZip (IsShown slots) bs sums → SomeFlip slots (map other_of (b ∷ bs)) (s ∷ sums) ⊎ AllZip (IsShown slots) (b ∷ bs) (s ∷ sums)
+    by : (fs : List Place) → flips slots (other_of b) s ≡ fs → SomeFlip slots (map other_of bs) sums ⊎ AllZip (IsHonest slots) (map other_of bs) sums
+        → SomeFlip slots (map other_of (b ∷ bs)) (s ∷ sums) ⊎ AllZip (IsHonest slots) (map other_of (b ∷ bs)) (s ∷ sums)
     by (l ∷ more) e rest = inl (inl (l, more, e))
     by [] e (inl some) = inl (inr some)
-    by [] e (inr rest) = inr (shows_cells tag m b.column slots b.mine (other_of b) s sealed all.0.within all.0.pair checked.0.count e, rest)
+    by [] e (inr rest) = inr (unflipped tag m b.column slots b.mine (other_of b) s sealed refl all.0.within all.0.pair checked.0.count checked.0.adds e, rest)
 
--- the law of verification: beside an honest domain, sums whose tags add up at every probe show the cells, or are the forgery
+-- the law of verification: beside an honest domain, sums whose tags add up at every probe are what an honest domain would
+-- have answered, and the two show the cells; or they are the forgery
 pub verified : (tag : ℕ → Place → Bool → ℕ) (m : ℕ) (slots : Slots) (bs : List Both) (sums : List Sum) → AllByRecursion (IsTagged tag m) (live_of slots) → AllByRecursion (HasPointPair m) bs → AllZip (IsChecked tag slots) bs sums
-    → IsForgeryOf tag slots (map other_of bs) sums ⊎ AllZip (IsShown slots) bs sums
+    → IsForgeryOf tag slots (map other_of bs) sums ⊎ (AllZip (IsHonest slots) (map other_of bs) sums × AllZip (IsShown slots) bs sums)
 verified tag m slots bs sums sealed all checked =
-    ⊎_elim (λ (s : SomeFlip slots (map other_of bs) sums). inl (record { some = s; each = all_shifted tag m slots bs sums sealed all checked })) (λ (a : AllZip (IsShown slots) bs sums). inr a) (flips_or_shows tag m slots bs sums sealed all checked)
+    ⊎_elim
+    (λ (s : SomeFlip slots (map other_of bs) sums). inl (record { some = s; each = all_shifted tag m slots bs sums sealed all checked }))
+    (λ (h : AllZip (IsHonest slots) (map other_of bs) sums). inr (h, shows_all tag m slots bs sums sealed all h))
+    (flips_or_honest tag m slots bs sums sealed all checked)

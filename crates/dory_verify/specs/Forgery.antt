@@ -35,6 +35,10 @@ pub record Probe : Type 0 where
 abbrev pub would_of : Slots → Probe → Sum
 would_of slots p = sum_of slots p.shares
 
+-- the sum is what an honest domain would have answered, tag and bits
+abbrev pub IsHonest : Slots → Probe → Sum → Type 0
+IsHonest slots p given = given ≡ would_of slots p
+
 -- the lines that a sum flips
 abbrev pub flips : Slots → Probe → Sum → List Place
 flips slots p given = flips_of (manifest_of slots) given.bits (would_of slots p).bits

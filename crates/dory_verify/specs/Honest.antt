@@ -45,7 +45,9 @@ pub record IsSearch (keys : FolderKeys) (shape : Dims) (history : List Entry) (v
   pub columns_are : columns ≡ positions_of keys shape word
   pub pairs : ArePairs (2 ^ shape.depth) columns lead follow
 
--- the documents are the answer, or the frame of the other domain, which was sent these shares, is the forgery
+-- the documents are the answer, and the frame of the other domain, which was sent these shares, is what an honest one
+-- would have found for them: this version, its manifest, and no bit flipped; or the frame is the forgery
 abbrev pub IsRightOrForged : FolderKeys → Dims → List Entry → ℕ → List ℕ → List ℕ → List (List Bool) → List ℕ → List DocId → Type 0
 IsRightOrForged keys shape history version word columns other frame docs =
-    IsAnswer keys shape history version word docs ⊎ ((f : Found) × IsFoundIn frame f × IsForgery keys history version columns other f.sums)
+    (IsAnswer keys shape history version word docs × IsFoundIn frame (found_by history version other))
+    ⊎ ((f : Found) × IsFoundIn frame f × IsForgery keys history version columns other f.sums)

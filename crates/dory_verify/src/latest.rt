@@ -22,6 +22,7 @@ pub fn check_latest(
     lengths(alloc, seen, asks[0], asks[1], lead, follow)
 }
 
+/// The same of two asks. It stands apart from `check_latest`, whose array shows no elements to what unfolds here.
 #[tactic(auto, unfolding(crate::specs::Checks::lengths_of))]
 fn lengths(
     alloc: Global,

@@ -15,7 +15,9 @@ mod tags;
 pub use answer::Answer;
 pub use fault::{CheckFault, VerifyError};
 pub use latest::check_latest;
-pub use law::{both_honest_pass, honest_is_no_forgery, right_beside_an_honest_domain, verified};
+pub use law::{
+    both_honest_pass, honest_is_no_forgery, right_beside_an_honest_domain, tags_decide, verified,
+};
 pub use reply::{Allowed, echoed, formed};
 pub use search::verify;
 pub use tags::check_tags;

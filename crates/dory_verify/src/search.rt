@@ -101,7 +101,8 @@ pub fn verify(
     )
 }
 
-/// What two replies to a search at these columns answer.
+/// What two replies to a search at these columns answer. It stands apart from `verify`, whose further clauses are proved of
+/// this exact one.
 #[tactic(auto, unfolding(crate::specs::Checks::first_fault_of))]
 fn answered(
     alloc: Global,
