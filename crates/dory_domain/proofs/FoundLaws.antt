@@ -15,7 +15,7 @@ use Rattle.dory_base.specs.Step.{IsMembersId, State, IsState, ids_of}
 use Rattle.dory_base.proofs.StepLaws.{history_is}
 use Rattle.dory_base.specs.Table.{Slots, has_doc, placed, emptied, changed, step, table_of, live_from, live_of, place_of, manifest_of}
 use Rattle.dory_base.specs.TableMeaning.{Kept, IsKept, StandsFor}
-use Rattle.dory_base.proofs.TableLaws.{manifest_rises, length-live}
+use Rattle.dory_base.proofs.TableLaws.{manifest_rises, length-live, number_stands, slots_stand}
 use Rattle.dory_scan.specs.Found.{found_in}
 use Rattle.dory_dpf.specs.PointKey.{PointKey, shares_of}
 use Rattle.dory_wire.specs.Read.{found_of}
@@ -70,7 +70,7 @@ carried_all (e ∷ history) named ids = (record { named = named.0; id = ids.0 },
 manifest_lines : (s : State) (number : ℕ) (table : Kept) → IsState s → AllByRecursion IsNamed s.history → StandsFor table (version_of number s.history) → IsKept table → AllByRecursion IsLine (manifest_of table.slots)
 manifest_lines s number table is named stands kept =
     let carried : AllByRecursion IsCarried (take number s.history) = all_take IsCarried number s.history (carried_all s.history named is.log.ids) in
-    let slots : AllByRecursion CarriedSlot table.slots = subst (AllByRecursion CarriedSlot) (sym stands.slots_are) (all_folded (take number s.history) [] carried tt) in
+    let slots : AllByRecursion CarriedSlot table.slots = subst (AllByRecursion CarriedSlot) (sym (slots_stand table (version_of number s.history) stands)) (all_folded (take number s.history) [] carried tt) in
     all_lines 0 table.slots (omega (arith, kept.few)) slots
 
 few_lines : (table : Kept) → IsKept table → length (manifest_of table.slots) ≤ 4096
@@ -87,7 +87,7 @@ pub found_range : (s : State) (number : ℕ) (table : Kept) (selectors : List (L
     → StandsFor table (version_of number s.history) → IsKept table → length selectors ≤ 8
     → f ≡ found_in table selectors → All (λ (s : Sum). s.tag < 2 ^ 128) f.sums → IsFound f
 found_range s number table selectors f is named low stands kept few found tags =
-    let number_is : table.number ≡ number = stands.number_is ∙ length-take-le number s.history low in
+    let number_is : table.number ≡ number = number_stands table (version_of number s.history) stands ∙ length-take-le number s.history low in
     let each : All (λ (s : Sum). s.tag < 2 ^ 128) (map (sum_of table.slots) selectors) = subst (λ (g : Found). All (λ (s : Sum). s.tag < 2 ^ 128) g.sums) found tags in
     let whole : IsFound (found_in table selectors) = record {
       version = omega (arith, (history_is s is).few);
@@ -108,7 +108,8 @@ pub found_is : (history : List Entry) (number : ℕ) (keys : List PointKey) (tab
     → number ≤ length history → StandsFor table (version_of number history) → selectors ≡ map shares_of keys → found_in table selectors ≡ found_of history number keys
 found_is history number keys table selectors low stands are =
     let slots : Slots = table_of (version_of number history) in
-    let number_is : table.number ≡ number = stands.number_is ∙ length-take-le number history low in
+    let number_is : table.number ≡ number = number_stands table (version_of number history) stands ∙ length-take-le number history low in
+    let slots_are : table.slots ≡ slots = slots_stand table (version_of number history) stands in
     let sums : map (sum_of table.slots) selectors ≡ map (λ key. sum_of slots (shares_of key)) keys =
-    ap (λ (s : Slots). map (sum_of s) selectors) stands.slots_are ∙ ap (map (sum_of slots)) are ∙ map_twice slots shares_of keys in
-    (λ i. record { version = number_is i; manifest = manifest_of (stands.slots_are i); sums = sums i })
+    ap (λ (s : Slots). map (sum_of s) selectors) slots_are ∙ ap (map (sum_of slots)) are ∙ map_twice slots shares_of keys in
+    (λ i. record { version = number_is i; manifest = manifest_of (slots_are i); sums = sums i })

@@ -13,7 +13,7 @@ use Rattle.dory_base.specs.declared.plan.StagePlan.TheVariants.{New}
 use Rattle.dory_base.specs.History.{IsWhole, IsChangeOf, IsEntryOf}
 use Rattle.dory_base.specs.Log.{Log, empty_log, look_stage, staged_by, staged_as}
 use Rattle.dory_base.specs.Step.{IsState, log_of, after, log_after, log_appended, state_appended}
-use Rattle.dory_base.specs.Step.Event.{Staged, Appended}
+use Rattle.dory_base.specs.declared.event.Event.TheVariants.{Staged, Appended}
 use Rattle.dory_base.proofs.LogLaws.{MayHappen, IsFresh, new_seen, order_seen, follow_seen, place_set_same, place_set_other, place_within, with_id_some, all_snoc, nothing_staged}
 use Rattle.dory_base.proofs.StepLaws.{history_is, log_of_after, after_is_state, empty_is_state}
 use Rattle.dory_log.specs.Spared.{MayCommit}

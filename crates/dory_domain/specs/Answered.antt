@@ -29,11 +29,15 @@ pub record IsAnsweredBy (before : List Held) (message frame : List ℕ) (now : L
 abbrev pub IsAnswered : List Held → List ℕ → List ℕ → List Held → Type 0
 IsAnswered before message frame now = (request : Request) × (reply : Reply) × IsAnsweredBy before message frame now request reply
 
--- What a domain makes of a message: a frame that answers it, or the fault that reading it finds, which leaves the folders
--- as they were. It may have stepped, and memory then run out.
-abbrev pub Responds : List Held → List ℕ → Result (Vec ℕ Global) WireFault → List Held → Type 0
-Responds before message (Ok frame) now = IsAnswered before message frame.items now
-Responds before message (Err (Kind b)) now = (request_of message ≡ Err (Kind b)) × (now ≡ before)
-Responds before message (Err (Body at)) now = (request_of message ≡ Err (Body at)) × (now ≡ before)
-Responds before message (Err (Trailing at)) now = (request_of message ≡ Err (Trailing at)) × (now ≡ before)
-Responds before message (Err NoMemory) now = (now ≡ before) ⊎ ((frame : List ℕ) × IsAnswered before message frame now)
+-- how a frame that answers a message leads from what was seen of a domain to what is seen
+abbrev pub Steps : Type 0 → Type 1
+Steps V = V → List ℕ → List ℕ → V → Type 0
+
+-- What is made of a message: a frame that answers it by a step, or the fault that reading it finds, where what is seen stays.
+-- A step may be taken, and memory then run out.
+abbrev pub Responds : {V : Type 0} → Steps V → V → List ℕ → Result (Vec ℕ Global) WireFault → V → Type 0
+Responds steps before message (Ok frame) now = steps before message frame.items now
+Responds steps before message (Err (Kind b)) now = (request_of message ≡ Err (Kind b)) × (now ≡ before)
+Responds steps before message (Err (Body at)) now = (request_of message ≡ Err (Body at)) × (now ≡ before)
+Responds steps before message (Err (Trailing at)) now = (request_of message ≡ Err (Trailing at)) × (now ≡ before)
+Responds steps before message (Err NoMemory) now = (now ≡ before) ⊎ ((frame : List ℕ) × steps before message frame now)

@@ -2,7 +2,7 @@
 ghost use Rattle.std.specs.Prelude.{◌≡◌, length, map, Some, IfOk, option_map};
 ghost use Rattle.dory_wire.specs.Cut.{IsMessage};
 ghost use Rattle.dory_wire.specs.Spelling.{IsRequest, IsReply};
-ghost use Rattle.dory_domain.specs.Answered.{Responds};
+ghost use Rattle.dory_domain.specs.Answered.{IsAnswered, Responds};
 ghost use Rattle.dory_domain.specs.Config.{config_fault_of, IsRefusedBy};
 ghost use Rattle.dory_domain.specs.Held.{Held, IsHeld, Serves, KeptIfRefused, opened, folder_in};
 
@@ -61,7 +61,7 @@ impl DomainCore {
     /// The frame that answers a message, by a step of its folder.
     pub fn answer(&mut self, alloc: Global, message: &[u8]) -> Result<Vec<u8>, WireFault>
         requires { IsMessage message.now }
-        ensures { Responds self.old.folders message.now result self.new.folders }
+        ensures { Responds IsAnswered self.old.folders message.now result self.new.folders }
     {
         let request = decode_request(alloc, message)?;
         let reply = self.step(alloc, &request);

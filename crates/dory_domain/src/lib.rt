@@ -16,5 +16,6 @@ pub use config::{ConfigFault, FolderConfig, OpenFault};
 pub use domain_core::DomainCore;
 pub use folder::Folder;
 pub use folders::Folders;
+pub use probes::selectors;
 pub use setup::{Config, FolderList};
 pub use versions::LastVersions;

@@ -1,7 +1,7 @@
 -- Connections to one domain, served one after another.
 use Rattle.std.specs.Prelude.{ℕ, zero, suc, ◌≡◌, ◌<◌, ⊤, List, [], ◌∷◌, length, Option, Some, None, Result, Ok, Err}
 use Rattle.dory_io.specs.Causes.{one_more}
-use Rattle.dory_domain.specs.Held.{Held}
+use Rattle.dory_domain.specs.Answered.{Steps}
 use Rattle.dory_session.specs.declared.end.SessionEnd.{SessionEnd}
 use Rattle.dory_session.specs.Session.{Around, around, IsSession}
 use Rattle.dory_net.specs.declared.serving.ServeEnd.{ServeEnd}
@@ -22,18 +22,18 @@ pub record Telling (From To : Type 0) : Type 0 where
   pub given : From → ℕ
   pub written : To → Option (List ℕ)
 
--- these folders, and what a source and a sink tell
-abbrev pub around_ends : {From To : Type 0} → Telling From To → List Held → From → To → Around
-around_ends tell folders input out = around folders (tell.left input) (tell.given input) (tell.written out)
+-- what is seen of a domain, and what a source and a sink tell
+abbrev pub around_ends : {V From To : Type 0} → Telling From To → V → From → To → Around V
+around_ends tell seen input out = around seen (tell.left input) (tell.given input) (tell.written out)
 
--- the connection's session found these folders and left those
-abbrev pub IsSessionOf : {From To : Type 0} → Telling From To → List Held → Connection From To → List Held → Type 0
-IsSessionOf tell before c now = IsSession (around_ends tell before c.input c.out) (around_ends tell now c.input_after c.out_after) c.end
+-- the connection's session began from what was seen before it, and left what is seen now
+abbrev pub IsSessionOf : {V From To : Type 0} → Steps V → Telling From To → V → Connection From To → V → Type 0
+IsSessionOf steps tell before c now = IsSession steps (around_ends tell before c.input c.out) (around_ends tell now c.input_after c.out_after) c.end
 
--- one session after another, each of which finds the folders as the one before it left them
-abbrev pub AreServed : {From To : Type 0} → Telling From To → List Held → List (Connection From To) → List Held → Type 0
-AreServed tell before [] now = now ≡ before
-AreServed tell before (c ∷ cs) now = (mid : List Held) × IsSessionOf tell before c mid × AreServed tell mid cs now
+-- one session after another, each of which begins from what the one before it left
+abbrev pub AreServed : {V From To : Type 0} → Steps V → Telling From To → V → List (Connection From To) → V → Type 0
+AreServed steps tell before [] now = now ≡ before
+AreServed {V} steps tell before (c ∷ cs) now = (mid : V) × IsSessionOf steps tell before c mid × AreServed steps tell mid cs now
 
 -- a count after so many more
 abbrev pub count_after : ℕ → ℕ → ℕ
@@ -47,13 +47,13 @@ EndsAfter None served Sessions = ⊥
 EndsAfter (Some asked) served AcceptFault = served < asked
 EndsAfter None served AcceptFault = ⊤
 
--- these connections were given and served, by a domain that had the folders `before` and has `now`
-pub record IsServing {From To : Type 0} (tell : Telling From To) (before now : List Held) (given given_now : ℕ) (asked : Option ℕ) (end : ServeEnd) (connections : List (Connection From To)) : Type 0 where
-  pub each : AreServed tell before connections now
+-- these connections were given and served, by a domain of which `before` was seen and `now` is
+pub record IsServing {V From To : Type 0} (steps : Steps V) (tell : Telling From To) (before now : V) (given given_now : ℕ) (asked : Option ℕ) (end : ServeEnd) (connections : List (Connection From To)) : Type 0 where
+  pub each : AreServed steps tell before connections now
   pub count : given_now ≡ count_after (length connections) given
   pub ended : EndsAfter asked (length connections) end
 
--- a connection was given and served, or none was given and the folders stay
-abbrev pub IsNextServed : {From To E : Type 0} → Telling From To → List Held → List Held → Result (Unit {0}) E → Type 0
-IsNextServed {From} {To} tell before now (Ok u) = (c : Connection From To) × IsSessionOf tell before c now
-IsNextServed tell before now (Err e) = now ≡ before
+-- a connection was given and served, or none was given and what is seen stays
+abbrev pub IsNextServed : {V From To E : Type 0} → Steps V → Telling From To → V → V → Result (Unit {0}) E → Type 0
+IsNextServed {V} {From} {To} steps tell before now (Ok u) = (c : Connection From To) × IsSessionOf steps tell before c now
+IsNextServed steps tell before now (Err e) = now ≡ before

@@ -5,7 +5,7 @@ ghost use Rattle.dory_io.specs.Given.{GaveOne};
 ghost use Rattle.dory_net.specs.Serving.{Connection, Telling, IsServing, IsNextServed};
 
 use dory_io::{Failed, Port};
-use dory_session::{Answers, serve_core};
+use dory_session::{Answers, serve_session};
 use std::alloc::Global;
 use std::sync::Wait;
 
@@ -19,13 +19,17 @@ pub enum ServeEnd {
 }
 
 /// Serves the next connection to its end, whatever end that is.
-fn serve_next<D: Answers, P: Port>(alloc: Global, core: &mut D, port: &mut P) -> Result<(), Failed>
-    ensures served { IsNextServed (record { left = λ s. P.From.left s; given = λ s. P.From.given s; written = λ o. P.To.written o }) (D.folders core.old) (D.folders core.new) result }
+fn serve_next<D: Answers, P: Port>(
+    alloc: Global,
+    domain: &mut D,
+    port: &mut P,
+) -> Result<(), Failed>
+    ensures served { IsNextServed D.steps (record { left = λ s. P.From.left s; given = λ s. P.From.given s; written = λ o. P.To.written o }) (D.seen domain.old) (D.seen domain.new) result }
     ensures given { GaveOne (P.given port.old) (P.given port.new) result }
     ensures cause { HasCause (P.faults port.old) (P.faults port.new) (IsErr result) }
 {
     let (mut input, mut out) = port.accept()?;
-    serve_core(alloc, core, &mut input, &mut out);
+    serve_session(alloc, domain, &mut input, &mut out);
     Ok(())
 }
 
@@ -33,18 +37,18 @@ fn serve_next<D: Answers, P: Port>(alloc: Global, core: &mut D, port: &mut P) ->
 pub fn serve_port<R: Wait, D: Answers, P: Port>(
     rt: &R,
     alloc: Global,
-    core: &mut D,
+    domain: &mut D,
     port: &mut P,
     sessions: Option<u32>,
 ) -> ServeEnd
-    // Each connection that the port gave was served by the domain as the one before it left it, and their number says the end.
-    ensures served { (connections : List (Connection P.From P.To)) × IsServing (record { left = λ s. P.From.left s; given = λ s. P.From.given s; written = λ o. P.To.written o }) (D.folders core.old) (D.folders core.new) (P.given port.old) (P.given port.new) sessions result connections }
+    // Each connection that the port gave was served from what was seen after the one before it, and their number says the end.
+    ensures served { (connections : List (Connection P.From P.To)) × IsServing D.steps (record { left = λ s. P.From.left s; given = λ s. P.From.given s; written = λ o. P.To.written o }) (D.seen domain.old) (D.seen domain.new) (P.given port.old) (P.given port.new) sessions result connections }
     ensures cause { HasCause (P.faults port.old) (P.faults port.new) (result ≡ ServeEnd.AcceptFault) }
 {
     match sessions {
         Some(many) => {
             for _ in 0..many {
-                match serve_next(alloc, core, port) {
+                match serve_next(alloc, domain, port) {
                     Ok(()) => {}
                     Err(Failed) => return ServeEnd::AcceptFault,
                 }
@@ -53,7 +57,7 @@ pub fn serve_port<R: Wait, D: Answers, P: Port>(
         }
         None => {
             for _ in rt.forever() {
-                match serve_next(alloc, core, port) {
+                match serve_next(alloc, domain, port) {
                     Ok(()) => {}
                     Err(Failed) => return ServeEnd::AcceptFault,
                 }

@@ -1,6 +1,7 @@
 -- What a server has served when it ends.
 use Rattle.std.specs.Prelude.{ℕ, ◌≡◌, ⊤, List, map, Option, Some, None, Result, Ok}
 use Rattle.dory_io.specs.Causes.{HasCause}
+use Rattle.dory_domain.specs.Answered.{IsAnswered}
 use Rattle.dory_domain.specs.Held.{Held, opened}
 use Rattle.dory_net.specs.Serving.{Connection, Telling, IsServing}
 use Rattle.dory_net.specs.declared.serving.ServeEnd.{ServeEnd}
@@ -18,7 +19,7 @@ pub record Counting (Door From To : Type 0) : Type 0 where
 
 -- these connections of a port were served by a domain that had these folders at first, and no more than were asked for
 pub record IsServedAt {Door From To : Type 0} (counting : Counting Door From To) (folders now : List Held) (asked : Option ℕ) (end : ServeEnd) (before after : Door) (connections : List (Connection From To)) : Type 0 where
-  pub served : IsServing counting.tell folders now (counting.given before) (counting.given after) asked end connections
+  pub served : IsServing IsAnswered counting.tell folders now (counting.given before) (counting.given after) asked end connections
   pub cause : HasCause (counting.faults before) (counting.faults after) (end ≡ port.AcceptFault)
 
 -- connections of some port were served so

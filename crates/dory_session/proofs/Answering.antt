@@ -7,18 +7,17 @@ use Rattle.dory_io.specs.Output.{AppendsLess}
 use Rattle.std.specs.List.{AllByRecursion, concat}
 use Rattle.dory_wire.specs.Frame.{frame_of}
 use Rattle.dory_wire.specs.Cut.{IsMessage, frames_of}
-use Rattle.dory_domain.specs.Held.{Held}
 use Rattle.dory_session.specs.declared.end.How.{How}
 use Rattle.dory_session.specs.declared.end.How.TheVariants.{OutputFault}
-use Rattle.dory_domain.specs.Answered.{IsAnswered, Responds}
+use Rattle.dory_domain.specs.Answered.{Steps, Responds}
 use Rattle.dory_session.specs.Answered.{AreAnswered}
 use Rattle.dory_session.specs.Ends.{Breaks, IsLess, end_of_fault}
 
-pub one_more_answered : (before mid now : List Held) (messages frames : List (List ℕ)) (message frame : List ℕ) → AreAnswered before messages frames mid → IsAnswered mid message frame now → AreAnswered before (messages ++ message ∷ []) (frames ++ frame ∷ []) now
-one_more_answered before mid now [] [] message frame h step = (now, subst (λ (held : List Held). IsAnswered held message frame now) h step, refl)
-one_more_answered before mid now (m ∷ ms) (f ∷ fs) message frame h step = (h.0, h.1, one_more_answered h.0 mid now ms fs message frame h.2 step)
-one_more_answered before mid now [] (f ∷ fs) message frame h step = absurd h
-one_more_answered before mid now (m ∷ ms) [] message frame h step = absurd h
+pub one_more_answered : {V : Type 0} (steps : Steps V) (before mid now : V) (messages frames : List (List ℕ)) (message frame : List ℕ) → AreAnswered steps before messages frames mid → steps mid message frame now → AreAnswered steps before (messages ++ message ∷ []) (frames ++ frame ∷ []) now
+one_more_answered steps before mid now [] [] message frame h step = (now, subst (λ seen. steps seen message frame now) h step, refl)
+one_more_answered steps before mid now (m ∷ ms) (f ∷ fs) message frame h step = (h.0, h.1, one_more_answered steps h.0 mid now ms fs message frame h.2 step)
+one_more_answered steps before mid now [] (f ∷ fs) message frame h step = absurd h
+one_more_answered steps before mid now (m ∷ ms) [] message frame h step = absurd h
 
 pub frames_more : (messages : List (List ℕ)) (message : List ℕ) → frames_of (messages ++ message ∷ []) ≡ frames_of messages ++ frame_of message
 frames_more [] message = append-nil (frame_of message)
@@ -33,11 +32,11 @@ messages_more [] message all is = (is, tt)
 messages_more (m ∷ ms) message all is = (all.0, messages_more ms message all.1 is)
 
 -- what a message that has no answer makes of a session
-pub broken_by : (fault : WireFault) (before : List Held) (message : List ℕ) (now : List Held) → Responds before message (Err fault) now → Breaks (end_of_fault fault) before message [] now
-broken_by (wire.Kind b) before message now r = (r.0, (refl, r.1))
-broken_by (wire.Body at) before message now r = (r.0, (refl, r.1))
-broken_by (wire.Trailing at) before message now r = (r.0, (refl, r.1))
-broken_by wire.NoMemory before message now r = (refl, r)
+pub broken_by : {V : Type 0} (steps : Steps V) (fault : WireFault) (before : V) (message : List ℕ) (now : V) → Responds steps before message (Err fault) now → Breaks steps (end_of_fault fault) before message [] now
+broken_by steps (wire.Kind b) before message now r = (r.0, (refl, r.1))
+broken_by steps (wire.Body at) before message now r = (r.0, (refl, r.1))
+broken_by steps (wire.Trailing at) before message now r = (r.0, (refl, r.1))
+broken_by steps wire.NoMemory before message now r = (refl, r)
 
 pub no_output_fault : (fault : WireFault) → ◌≡◌ {A = How} (end_of_fault fault) OutputFault → ⊥
 no_output_fault (wire.Kind b) e = absurd cc

@@ -1,11 +1,11 @@
--- What a domain answers to messages, one after the other.
+-- What messages are answered, one after the other.
 use Rattle.std.specs.Prelude.{ℕ, ◌≡◌, List, [], ◌∷◌}
-use Rattle.dory_domain.specs.Answered.{IsAnswered}
-use Rattle.dory_domain.specs.Held.{Held}
+use Rattle.dory_domain.specs.Answered.{Steps}
 
--- each message is answered by the frame in its place, one after the other
-abbrev pub AreAnswered : List Held → List (List ℕ) → List (List ℕ) → List Held → Type 0
-AreAnswered before [] [] now = now ≡ before
-AreAnswered before (message ∷ messages) (frame ∷ frames) now = (mid : List Held) × IsAnswered before message frame mid × AreAnswered mid messages frames now
-AreAnswered before [] (frame ∷ frames) now = ⊥
-AreAnswered before (message ∷ messages) [] now = ⊥
+-- each message is answered by the frame in its place, by a step from what the step before it left
+abbrev pub AreAnswered : {V : Type 0} → Steps V → V → List (List ℕ) → List (List ℕ) → V → Type 0
+AreAnswered steps before [] [] now = now ≡ before
+AreAnswered {V} steps before (message ∷ messages) (frame ∷ frames) now =
+    (mid : V) × steps before message frame mid × AreAnswered steps mid messages frames now
+AreAnswered steps before [] (frame ∷ frames) now = ⊥
+AreAnswered steps before (message ∷ messages) [] now = ⊥

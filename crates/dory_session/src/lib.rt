@@ -11,4 +11,4 @@ mod tests;
 
 pub use answers::Answers;
 pub use end::{How, SessionEnd};
-pub use serve::serve_core;
+pub use serve::{serve_core, serve_session};

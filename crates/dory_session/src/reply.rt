@@ -26,15 +26,15 @@ fn fault_end(fault: WireFault) -> How
 /// Writes the whole reply to a message. Nothing is written for one that is no request.
 pub fn reply_to<D: Answers, O: Sink>(
     alloc: Global,
-    core: &mut D,
+    domain: &mut D,
     message: &[u8],
     out: &mut O,
 ) -> Result<(), How>
     requires { IsMessage message.now }
-    ensures replies { (part : List ℕ) × Appends (O.written out.old) (O.written out.new) part × WritesReply (D.folders core.old) message.now part (D.folders core.new) result }
+    ensures replies { (part : List ℕ) × Appends (O.written out.old) (O.written out.new) part × WritesReply D.steps (D.seen domain.old) message.now part (D.seen domain.new) result }
     ensures cause { HasCause (O.faults out.old) (O.faults out.new) (IsErrOf result How.OutputFault) }
 {
-    let frame = match core.answer(alloc, message) {
+    let frame = match domain.answer(alloc, message) {
         Ok(frame) => frame,
         Err(fault) => return Err(fault_end(fault)),
     };

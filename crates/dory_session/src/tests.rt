@@ -1,12 +1,14 @@
 //! Sessions over streams with each end, in pieces of several sizes, and with calls that fail.
 ghost use Rattle.std.specs.Prelude.{◌≤◌, ℕ, None, length};
 
-use crate::{How, SessionEnd, serve_core};
+use crate::{Answers, How, SessionEnd, serve_core, serve_session};
 use dory_base::{Failed, FolderId, NoMemory, Shape, Side};
 use dory_domain::{DomainCore, FolderConfig};
 use dory_io::{Sink, Source, VecSink, VecSource};
 use dory_kernel::{RowKernel, plain_parity};
+use dory_wire::WireFault;
 use std::alloc::{AllocError, Global};
+use std::sync::{Mutex, Wait};
 use std::test::Fail;
 
 // Latest of folder 1, and the reply that its history is empty.
@@ -259,5 +261,88 @@ fn a_failing_call_ends_the_session(rt: HostRuntime) -> Result<(), Fail> {
         assert_eq!(rt; end, SessionEnd { answered, how });
         assert_eq!(rt; wrote, written);
     }
+    Ok(())
+}
+
+// To order the update that STAGE stages, and the reply that the history has one update.
+const ORDER_STAGED: [u8; 37] = [
+    0, 0, 0, 0x21, 5, 0, 0, 0, 0, 0, 0, 0, 0, 0, 0, 0, 3, 0, 0, 0, 0, 0, 0, 0, 1, 0, 0, 0, 0, 0, 0,
+    0, 0, 0, 0, 0, 2,
+];
+
+const AT_1: [u8; 25] = [
+    0, 0, 0, 0x15, 0x81, 0, 0, 0, 3, 0, 0, 0, 0, 0, 0, 0, 2, 0, 0, 0, 0, 0, 0, 0, 1,
+];
+
+/// A domain behind a lock, which waits while another has it.
+#[derive(Drop)]
+struct Locked<'a, R> {
+    rt: &'a R,
+    core: &'a Mutex<DomainCore>,
+}
+
+impl<'a, R: Wait> Answers for Locked<'a, R> {
+    ghost use Rattle.std.specs.Prelude.{List};
+    ghost use Rattle.dory_domain.specs.Held.{Held};
+    ghost use Rattle.dory_domain.specs.Answered.{IsAnswered};
+
+    ghost Seen = { Unit {0} };
+
+    ghost seen = { λ _. tt };
+
+    // Nothing is known of the folders between two answers.
+    ghost steps = { λ _ message frame _. (before : List Held) × (now : List Held) × IsAnswered before message frame now };
+
+    fn answer(&mut self, alloc: Global, message: &[u8]) -> Result<Vec<u8>, WireFault> {
+        let mut core = self.core.lock(self.rt);
+        core.answer(alloc, message)
+    }
+}
+
+/// The end of a session over a locked domain on two frames, and whether these are what it wrote.
+fn end_locked<R: Wait>(
+    rt: &R,
+    alloc: Global,
+    core: &Mutex<DomainCore>,
+    frames: [&[u8]; 2],
+    written: &[u8],
+) -> Result<(SessionEnd, bool), NoMemory> {
+    let mut bytes = Vec::from_slice(alloc, frames[0])?;
+    bytes.extend_from_slice(frames[1])?;
+    let mut source = VecSource::new(bytes, Vec::new(alloc));
+    let mut sink = VecSink::new(alloc, 200, Vec::new(alloc))?;
+    let end = serve_session(alloc, &mut Locked { rt, core }, &mut source, &mut sink);
+    Ok((end, sink.bytes() == written))
+}
+
+#[test]
+fn a_domain_changes_between_two_sessions_over_its_lock(rt: HostRuntime) -> Result<(), Fail> {
+    let alloc = rt.alloc();
+    let Ok(core) = core(alloc) else {
+        return Err(Fail::from(AllocError));
+    };
+    let core = Mutex::new(core);
+    let ended = SessionEnd {
+        answered: 2,
+        how: How::Ended,
+    };
+    let mut empty = Vec::from_slice(alloc, &AT_0)?;
+    empty.extend_from_slice(&AT_0)?;
+    let Ok((end, wrote)) = end_locked(&rt, alloc, &core, [&LATEST, &LATEST], &empty) else {
+        return Err(Fail::from(AllocError));
+    };
+    assert_eq!(rt; end, ended);
+    assert!(rt; wrote);
+    let Ok((end, _)) = end_locked(&rt, alloc, &core, [&STAGE, &ORDER_STAGED], &[]) else {
+        return Err(Fail::from(AllocError));
+    };
+    assert_eq!(rt; end, ended);
+    let mut one = Vec::from_slice(alloc, &AT_1)?;
+    one.extend_from_slice(&AT_1)?;
+    let Ok((end, wrote)) = end_locked(&rt, alloc, &core, [&LATEST, &LATEST], &one) else {
+        return Err(Fail::from(AllocError));
+    };
+    assert_eq!(rt; end, ended);
+    assert!(rt; wrote);
     Ok(())
 }

@@ -7,7 +7,7 @@ abbrev pub invariant-loop : goal.invariant-loop
 invariant-loop g l =
     let tell : Telling g.row.P-From.Denot g.row.P-To.Denot = record { left = λ s. g.P.From.Source.left s; given = λ s. g.P.From.Source.given s; written = λ o. g.P.To.Sink.written o } in
     record {
-      served : SoFar tell (g.D.Answers.folders l.initial.core) (g.D.Answers.folders l.core) (g.P.Port.given l.initial.port) (g.P.Port.given l.port) l.counter;
+      served : SoFar g.D.Answers.steps tell (g.D.Answers.seen l.initial.domain) (g.D.Answers.seen l.domain) (g.P.Port.given l.initial.port) (g.P.Port.given l.port) l.counter;
       later : g.P.Port.faults l.initial.port ≤ g.P.Port.faults l.port;
     }
 
@@ -15,6 +15,6 @@ abbrev pub invariant-loop-2 : goal.invariant-loop-2
 invariant-loop-2 g l =
     let tell : Telling g.row.P-From.Denot g.row.P-To.Denot = record { left = λ s. g.P.From.Source.left s; given = λ s. g.P.From.Source.given s; written = λ o. g.P.To.Sink.written o } in
     record {
-      served : (n : ℕ) × SoFar tell (g.D.Answers.folders l.initial.core) (g.D.Answers.folders l.core) (g.P.Port.given l.initial.port) (g.P.Port.given l.port) n;
+      served : (n : ℕ) × SoFar g.D.Answers.steps tell (g.D.Answers.seen l.initial.domain) (g.D.Answers.seen l.domain) (g.P.Port.given l.initial.port) (g.P.Port.given l.port) n;
       later : g.P.Port.faults l.initial.port ≤ g.P.Port.faults l.port;
     }

@@ -9,7 +9,7 @@ returns-in-Sessions-clause-served g c =
       given = λ p. g.B.Door.Port.given p;
       faults = λ p. g.B.Door.Port.faults p;
     } in
-    served_by counting _ c.in-Ok.line _ c.serve_port.new.core.folders _ _ c.in-Ok-open_port.opened.1 c.serve_port.new.port c.in-Ok.ensures.line c.in-Ok-begin.ensures.begun c.in-Sessions.ensures.served c.in-Sessions.ensures.cause
+    served_by counting _ c.in-Ok.line _ c.serve_port.new.domain.folders _ _ c.in-Ok-open_port.opened.1 c.serve_port.new.port c.in-Ok.ensures.line c.in-Ok-begin.ensures.begun c.in-Sessions.ensures.served c.in-Sessions.ensures.cause
 
 pub returns-clause-served : goal.returns-clause-served
 returns-clause-served g c =
@@ -18,4 +18,4 @@ returns-clause-served g c =
       given = λ p. g.B.Door.Port.given p;
       faults = λ p. g.B.Door.Port.faults p;
     } in
-    served_by counting _ c.in-Ok.line _ c.serve_port.new.core.folders _ _ c.in-Ok-open_port.opened.1 c.serve_port.new.port c.in-Ok.ensures.line c.in-Ok-begin.ensures.begun c.in-AcceptFault.ensures.served c.in-AcceptFault.ensures.cause
+    served_by counting _ c.in-Ok.line _ c.serve_port.new.domain.folders _ _ c.in-Ok-open_port.opened.1 c.serve_port.new.port c.in-Ok.ensures.line c.in-Ok-begin.ensures.begun c.in-AcceptFault.ensures.served c.in-AcceptFault.ensures.cause

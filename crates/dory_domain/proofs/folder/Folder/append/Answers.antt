@@ -3,8 +3,9 @@ use Rattle.std.specs.Arc.{arc_value}
 use Rattle.dory_base.specs.declared.entry.Entry.{Entry}
 use Rattle.dory_base.specs.Log.{Log}
 use Rattle.dory_base.specs.Step.{log_of, log_after}
-use Rattle.dory_base.specs.Step.Event.{Appended}
+use Rattle.dory_base.specs.declared.event.Event.TheVariants.{Appended}
 use Rattle.dory_base.specs.TableMeaning.{Kept, StandsFor}
+use Rattle.dory_base.proofs.TableLaws.{number_stands}
 use Rattle.dory_log.specs.Spared.{Spared, MayCommit}
 use Rattle.dory_domain.specs.Held.{Held}
 use Rattle.dory_domain.specs.Versions.{AreLast, Last, with_next}
@@ -17,7 +18,7 @@ next_uncounted-requires-clause-room c =
     let fits = next_fits (by_parts c.self.inside.folder.0 c.self.inside.versions.shape c.self.inside.versions.retained c.self.inside.history c.self.inside.log.log) c.args.number c.args.id (arc_value c.in_ok-update.update) c.self.invariant.0
     (subst (λ (f : Held). MayCommit (log_of f.state) c.args.number c.args.id) (sym c.self.view_is) c.requires.fresh)
     (search rules) in
-    omega (arith, (c.newest.ensures.stands c.self.inside.history c.self.invariant.2).number_is, fits.0)
+    omega (arith, number_stands c.newest.result.now c.self.inside.history (c.newest.ensures.stands c.self.inside.history c.self.invariant.2), fits.0)
 
 pub invariant_of-self-2 : goal.invariant_of-self-2
 invariant_of-self-2 c =

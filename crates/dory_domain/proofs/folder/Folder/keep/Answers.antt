@@ -3,7 +3,7 @@ use Rattle.std.specs.Arc.{arc_value}
 use Rattle.dory_base.specs.declared.plan.StagePlan.TheVariants.{New}
 use Rattle.dory_base.specs.Log.{Log, look_stage}
 use Rattle.dory_base.specs.Step.{log_of, log_after}
-use Rattle.dory_base.specs.Step.Event.{Staged}
+use Rattle.dory_base.specs.declared.event.Event.TheVariants.{Staged}
 use Rattle.dory_log.specs.Spared.{Spared}
 use Rattle.dory_domain.specs.Held.{Held}
 use Rattle.dory_domain.proofs.StepHeld.{parts_staged}
