@@ -8,3 +8,4 @@ pub mod TextLaws
 pub mod MoreReplies
 pub mod CourseLaws
 pub mod ConfirmationLaws
+pub mod MemoryLaws

@@ -1,5 +1,5 @@
 //! The laws of a command's course.
-ghost use Rattle.std.specs.Prelude.{◌≡◌, ℕ, List, ◌++◌, ◌∷◌, [], Some, None, Ok};
+ghost use Rattle.std.specs.Prelude.{◌≡◌, ◌≢◌, ℕ, List, ◌++◌, ◌∷◌, [], Some, None, Ok, Err};
 ghost use Rattle.dory_base.specs.declared.entry.Entry.{Entry};
 ghost use Rattle.dory_base.specs.declared.ids.AskId.{AskId};
 ghost use Rattle.dory_base.specs.declared.ids.Side.{Side};
@@ -11,13 +11,15 @@ ghost use Rattle.dory_query.specs.declared.query.Query.{Query};
 ghost use Rattle.dory_state.specs.declared.kept.KeptState.{KeptState};
 ghost use Rattle.dory_verify.specs.Checks.{lengths_of};
 ghost use Rattle.dory_verify.specs.Listing.{Lists};
+ghost use Rattle.dory_member.specs.declared.command.Command.{Command};
+ghost use Rattle.dory_member.specs.declared.outcome.Fault.TheVariants as fault;
 ghost use Rattle.dory_member.specs.declared.outcome.Mark.{Mark};
 ghost use Rattle.dory_member.specs.declared.phase.Phase.TheVariants.{Measuring, Updating};
 ghost use Rattle.dory_member.specs.declared.phase.Run.{Run};
 ghost use Rattle.dory_member.specs.declared.phase.Single.{Single};
 ghost use Rattle.dory_member.specs.declared.phase.Single.TheVariants as single;
 ghost use Rattle.dory_member.specs.declared.phase.UpdateStep.TheVariants.{StageFollow};
-ghost use Rattle.dory_member.specs.Course.{answer_by, asked_of, asks, ended_of, lesser, name, outcome_at, put_at, query_of, run_after, took, updated};
+ghost use Rattle.dory_member.specs.Course.{answer_by, asked_of, asks, begun, ended_of, fails, lesser, name, outcome_at, put_at, query_of, run_after, took, updated};
 ghost use Rattle.dory_member.specs.Confirmation.{Confirmation};
 ghost use Rattle.dory_member.specs.Single.{confirmed};
 ghost use Rattle.dory_member.specs.Whole.{search_asks, start, update_asks};
@@ -57,4 +59,12 @@ pub fn confirmed_replies()
 /// The answer to a search names its version, and lists what the two replies found, rising.
 pub fn answers()
     ensures { (keys : FolderKeys) (q : Query) (lead follow : Found) → Lists keys (asked_columns q) q.version lead follow (answer_by keys q lead follow) }
+{}
+
+/// By its definition no command wants memory: none is refused so, and none ends so by its beginning or by a reply. So a member
+/// that ends with NoMemory is one whose code ran out of it.
+pub fn memory_is_never_wanted()
+    ensures refused { (k : KeptState) (seed : List ℕ) (c : Command) → begun k seed c ≢ Err fault.NoMemory }
+    ensures begins { (k : KeptState) (seed : List ℕ) (c : Command) (run : Run) → begun k seed c ≡ Ok run → run.phase ≢ fails fault.NoMemory }
+    ensures goes_on { (run : Run) (frame : List ℕ) → (took run frame).phase ≡ fails fault.NoMemory → run.phase ≡ fails fault.NoMemory }
 {}

@@ -19,8 +19,8 @@ mod turn;
 
 pub use begin::post_fault;
 pub use command::Command;
-pub use law::{answers, confirmed_replies, reply_by_reply, whole_commands};
-pub use member::Member;
+pub use law::{answers, confirmed_replies, memory_is_never_wanted, reply_by_reply, whole_commands};
+pub use member::{Member, Parts};
 pub use next::Next;
 pub use outcome::{Fault, Mark, Outcome};
 pub use text::outcome_text;

@@ -178,6 +178,25 @@ impl Model for Member {
     ghost invariant = { λ a. Stands a.run a.frame };
 }
 
+/// What is left of a command: what it has kept, and its outcome.
+#[derive(Drop)]
+pub struct Parts {
+    pub state: KeptState,
+    pub outcome: Option<Outcome>,
+}
+
+/// How a phase has ended, if it has.
+fn ended(phase: Phase) -> Option<Outcome>
+    ensures { result ≡ outcome_at phase }
+{
+    match phase {
+        Phase::Updating { .. } => None,
+        Phase::Measuring { .. } => None,
+        Phase::Searching { .. } => None,
+        Phase::Ended { outcome } => Some(outcome),
+    }
+}
+
 /// A run that begins.
 fn first(alloc: Global, run: Run) -> Result<Member, Fault>
     requires { RunInRange run }
@@ -274,6 +293,21 @@ impl Member {
         match &self.run.phase {
             Phase::Ended { outcome } => Some(outcome),
             _ => None,
+        }
+    }
+
+    /// Takes a command apart: its state, from which the next command of the same member begins, and its outcome, which it
+    /// has at its end.
+    pub fn into_parts(self) -> Parts
+        ensures state { result.state ≡ self.run.kept }
+        ensures range { IsKeptState result.state }
+        ensures outcome { result.outcome ≡ outcome_of self }
+    {
+        let Member { run, unsaved, .. } = self;
+        let Run { kept, phase, .. } = run;
+        Parts {
+            state: kept,
+            outcome: if unsaved { None } else { ended(phase) },
         }
     }
 }

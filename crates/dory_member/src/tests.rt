@@ -4,4 +4,5 @@ mod asked;
 mod begun;
 mod drawn;
 mod members;
+mod parts;
 mod texts;
