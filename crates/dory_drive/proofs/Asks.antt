@@ -3,6 +3,7 @@ use Rattle.std.proofs.Common.{◌≡◌, ℕ, ◌<◌, List, [], ◌∷◌, ◌+
 use Rattle.std.proofs.lemmas.List.{append-nil}
 use Rattle.dory_wire.specs.declared.message.Request.{Request}
 use Rattle.dory_wire.specs.Reading.{request_in}
+use Rattle.dory_link.specs.declared.link.LinkError.{LinkError}
 use Rattle.dory_link.specs.declared.link.LinkError.TheVariants as link
 use Rattle.dory_link.specs.Told.{Told, Talk, talk, Heard, Adds, IsReplyFrame, IsAsked}
 use Rattle.dory_member.specs.Machine.{IsFrameOf}
@@ -13,14 +14,14 @@ use Rattle.dory_drive.specs.Scene.{Scene, OnlyLink, heard_at}
 use Rattle.dory_drive.specs.Way.{UnansweredOver, scene_links}
 
 grew : (old new : Option (List Talk)) (sent frame : List ℕ) (request : Request) → sent ≡ request_frame request → Adds old new sent (Ok frame) → GrewBy old new (spoke request frame ∷ [])
-grew None new sent frame request e added = tt
-grew (Some old) None sent frame request e added = absurd added
+grew None None sent frame request e added = tt
 grew (Some old) (Some new) sent frame request e added = added ∙ ap (λ (s : List ℕ). old ++ talk s (Some frame) ∷ []) e
+grew _ _ sent frame request e added = absurd added
 
 replied : (old new : Option (ℕ → Option Told)) (sent frame : List ℕ) (request : Request) → request_in sent ≡ Some request → IsReplyFrame old new sent frame → HasReply old new request frame
-replied None new sent frame request e answers = tt
-replied (Some old) None sent frame request e answers = absurd answers
+replied None None sent frame request e answers = tt
 replied (Some old) (Some new) sent frame request e answers = answers request e
+replied _ _ sent frame request e answers = absurd answers
 
 -- an ask by the frame of a request
 pub made : (old new : Heard) (sent frame came : List ℕ) (request : Request) → IsFrameOf request sent → came ≡ frame → IsAsked old new sent (Ok frame) → ((i : ℕ) → get_or came i 0 < 256) → Exchanged old new request came
@@ -34,27 +35,17 @@ made old new sent frame came request is same asked are_bytes =
       are_bytes = are_bytes;
     }
 
-failed : (old new : Option (List Talk)) (sent : List ℕ) (request : Request) → sent ≡ request_frame request → Adds old new sent (Err link.Failed) → (n : ℕ) × AskedFrames old new (take n (request_frame request ∷ []))
-failed None new sent request e added = (0, ([], tt, refl))
-failed (Some old) None sent request e added = absurd added
-failed (Some old) (Some new) sent request e added = (1, (talk sent None ∷ [], added, ap (λ (s : List ℕ). s ∷ []) e))
+unsent : (old new : Option (List Talk)) (sent : List ℕ) (request : Request) (e : LinkError) → sent ≡ request_frame request → Adds old new sent (Err e) → (n : ℕ) × AskedFrames old new (take n (request_frame request ∷ []))
+unsent None None sent request e is added = (0, ([], tt, refl))
+unsent (Some old) (Some new) sent request link.Failed is added = (1, (talk sent None ∷ [], added, ap (λ (s : List ℕ). s ∷ []) is))
+unsent (Some old) (Some new) sent request link.NoMemory is (inl same) = (0, ([], same ∙ sym (append-nil old), refl))
+unsent (Some old) (Some new) sent request link.NoMemory is (inr added) = (1, (talk sent None ∷ [], added, ap (λ (s : List ℕ). s ∷ []) is))
+unsent _ _ sent request e is added = absurd added
 
--- an ask that its link failed
-pub failed_ask : (old new : Heard) (sent : List ℕ) (request : Request) → IsFrameOf request sent → IsAsked old new sent (Err link.Failed) → Unanswered old new request
-failed_ask old new sent request is asked =
-    let sent_so = failed old.exchanges new.exchanges sent request is.spelled asked.added in
-    record { times = sent_so.0; asked = sent_so.1; grown = asked.grown }
-
-ran_out : (old new : Option (List Talk)) (sent : List ℕ) (request : Request) → sent ≡ request_frame request → Adds old new sent (Err link.NoMemory) → (n : ℕ) × AskedFrames old new (take n (request_frame request ∷ []))
-ran_out None new sent request e added = (0, ([], tt, refl))
-ran_out (Some old) None sent request e added = absurd added
-ran_out (Some old) (Some new) sent request e (inl same) = (0, ([], same ∙ sym (append-nil old), refl))
-ran_out (Some old) (Some new) sent request e (inr added) = (1, (talk sent None ∷ [], added, ap (λ (s : List ℕ). s ∷ []) e))
-
--- an ask that found no memory
-pub memory_ask : (old new : Heard) (sent : List ℕ) (request : Request) → IsFrameOf request sent → IsAsked old new sent (Err link.NoMemory) → Unanswered old new request
-memory_ask old new sent request is asked =
-    let sent_so = ran_out old.exchanges new.exchanges sent request is.spelled asked.added in
+-- an ask that brought no frame
+pub no_frame : (old new : Heard) (sent : List ℕ) (request : Request) (e : LinkError) → IsFrameOf request sent → IsAsked old new sent (Err e) → Unanswered old new request
+no_frame old new sent request e is asked =
+    let sent_so = unsent old.exchanges new.exchanges sent request e is.spelled asked.added in
     record { times = sent_so.0; asked = sent_so.1; grown = asked.grown }
 
 -- ---- over both links

@@ -4,7 +4,7 @@ use Rattle.std.specs.Prelude.{◌⊎◌}
 use Rattle.dory_member.specs.Course.{Put}
 use Rattle.dory_drive.specs.declared.broken.Broken.{Broken}
 use Rattle.dory_drive.specs.Course.{Course, IsCourse, ended_at, is_asking, run_after}
-use Rattle.dory_drive.specs.Driven.{AskFailed, Closes, Driven, ExchangedBetween, FirstSaveFailed, Finished, LastSaveFailed, RanOut, RanOutAt, RunEnds, SaveDone, SaveFailed, StandsAt}
+use Rattle.dory_drive.specs.Driven.{AskFailed, Closes, ComesTo, Driven, ExchangedBetween, FirstSaveFailed, Finished, LastSaveFailed, RanOut, RanOutAt, RunEnds, SaveDone, SaveFailed, StandsAt}
 use Rattle.dory_drive.specs.Ends.{IsSaveEnd}
 use Rattle.dory_drive.specs.Kept.{KeepsIf, KeepsNow, OldOrNew}
 use Rattle.dory_drive.specs.Scene.{Faults, OnlyKeeper, OnlyLinks, OnlyOutput, Scene, scene}
@@ -32,7 +32,7 @@ kept_on c law run (f ∷ g ∷ frames) a z (m, turned, (n, next, more)) h =
     kept_on c law (c.took run f) (g ∷ frames) m z (n, next, more) h ∙ law.keeps run f (going c law (c.took run f) g m n next)
 
 -- a run that doesn't save at first comes to nothing
-idle : {R O : Type 0} (c : Course R O) → IsCourse c → (run : R) (frames : List (List ℕ)) (l m : Links) → ExchangedInTurn c run frames l m → c.saves_first run ≡ false → c.saves_last (run_after c run frames) ≡ false
+pub idle : {R O : Type 0} (c : Course R O) → IsCourse c → (run : R) (frames : List (List ℕ)) (l m : Links) → ExchangedInTurn c run frames l m → c.saves_first run ≡ false → c.saves_last (run_after c run frames) ≡ false
 idle c law run frames l m went e =
     let none : frames ≡ [] = no_frames c run frames l m (law.idle run e).0 went in
     ap (λ (fs : List (List ℕ)). c.saves_last (run_after c run fs)) none ∙ (law.idle run e).1
@@ -67,7 +67,7 @@ asked_nothing : (a s : Scene) → OnlyKeeper a s → (s.lead ≡ a.lead) × (s.f
 asked_nothing a s only = (ap (λ (x : Scene). x.lead) only, ap (λ (x : Scene). x.follow) only)
 
 pub first_failed : {R O : Type 0} (c : Course R O) (run : R) (a s : Scene) (end : Broken) → OnlyKeeper a s → OldOrNew a.kept s.kept (c.kept run) → IsSaveEnd end → RunEnds c run a s (Err end)
-first_failed c run a s end only kept is = FirstSaveFailed end (asked_nothing a s only) kept is refl
+first_failed c run a s end only kept is = FirstSaveFailed (asked_nothing a s only) kept is
 
 -- what was kept first stays while it asks
 kept_through : {R O : Type 0} (c : Course R O) (run : R) (u : Bool) (a s t : Scene) → u ≡ c.saves_first run → KeepsIf u a.kept s.kept (c.kept run) → OnlyLinks s t → KeepsIf (c.saves_first run) a.kept t.kept (c.kept run)
@@ -77,8 +77,8 @@ kept_through c run u a s t e kept only =
 pub ask_failed : {R O : Type 0} (c : Course R O) (run began : R) (u : Bool) (a s t : Scene) (end : Broken) → u ≡ c.saves_first run → OnlyKeeper a s → KeepsIf u a.kept s.kept (c.kept run) → OnlyLinks s t → began ≡ run
     → InterruptedAfter c began (scene_links s) (scene_links t) end → RunEnds c run a t (Err end)
 ask_failed c run began u a s t end e only kept others here broke =
-    AskFailed end (subst (λ (r : _). InterruptedAfter c r (scene_links a) (scene_links t) end) here (subst (λ (l : Links). InterruptedAfter c began l (scene_links t) end) (same_links a s only) broke))
-    (kept_through c run u a s t e kept others) refl
+    AskFailed (subst (λ (r : _). InterruptedAfter c r (scene_links a) (scene_links t) end) here (subst (λ (l : Links). InterruptedAfter c began l (scene_links t) end) (same_links a s only) broke))
+    (kept_through c run u a s t e kept others)
 
 -- what it went through, from the first moment to the last
 driven_from : {R O : Type 0} (c : Course R O) (run began at : R) (u : Bool) (a s t : Scene) → OnlyKeeper a s → began ≡ run → Driven c began (scene_links s) (scene_links t) at u → Driven c run (scene_links a) (scene_links t) at u
@@ -97,8 +97,8 @@ last_failed c law run at u a t z end first driven only due kept is = by driven.g
     by (inl (here, inl (none, e))) = absurd (cc)
     by (inl (here, inr e)) =
         let saving : c.saves_last (run_after c run driven.goes.frames) ≡ true = sym (ap c.saves_last here) ∙ sym e ∙ due in
-        LastSaveFailed end driven.goes.frames went saving
-        (keeps_either c law run driven.goes.frames (scene_links a) (scene_links t) a.kept t.kept z.kept driven.goes.went saving first (subst (λ (r : _). OldOrNew t.kept z.kept (c.kept r)) here kept)) is refl
+        LastSaveFailed driven.goes.frames went saving
+        (keeps_either c law run driven.goes.frames (scene_links a) (scene_links t) a.kept t.kept z.kept driven.goes.went saving first (subst (λ (r : _). OldOrNew t.kept z.kept (c.kept r)) here kept)) is
     by (inr (out, e)) = absurd (cc)
 
 -- and where it didn't, its outcome is handed back
@@ -118,13 +118,13 @@ finished c law run at u a t z outcome first driven only kept ended = by driven.g
     by : StandsAt c run at u frames ⊎ (RanOutAt c run at frames × (u ≡ false)) → RunEnds c run a z (Ok outcome)
     by (inl (here, inl (none, e))) =
         let back : run_after c run frames ≡ run = ap (run_after c run) none in
-        Finished frames outcome went (sym (ap c.ended here) ∙ ended) (subst (λ (r : _). KeepsIf (c.saves_first run) a.kept z.kept (c.kept r)) (sym back) (stays e)) refl
+        Finished frames went (sym (ap c.ended here) ∙ ended) (subst (λ (r : _). KeepsIf (c.saves_first run) a.kept z.kept (c.kept r)) (sym back) (stays e))
     by (inl (here, inr e)) =
-        Finished frames outcome went (sym (ap c.ended here) ∙ ended)
+        Finished frames went (sym (ap c.ended here) ∙ ended)
         (keeps_last c law run frames (scene_links a) (scene_links t) a.kept t.kept z.kept driven.goes.went first
-        (subst (λ (v : Bool). KeepsIf v t.kept z.kept (c.kept (run_after c run frames))) (e ∙ ap c.saves_last here) (subst (λ (r : _). KeepsIf u t.kept z.kept (c.kept r)) here kept))) refl
+        (subst (λ (v : Bool). KeepsIf v t.kept z.kept (c.kept (run_after c run frames))) (e ∙ ap c.saves_last here) (subst (λ (r : _). KeepsIf u t.kept z.kept (c.kept r)) here kept)))
     by (inr (out, e)) =
-        RanOut out.earlier out.frame outcome (subst (λ (fs : List (List ℕ)). ExchangedBetween c run fs a z) out.all went) (sym (ap c.ended out.lost) ∙ ended) (stays e) refl
+        RanOut out.earlier out.frame (subst (λ (fs : List (List ℕ)). ExchangedBetween c run fs a z) out.all went) (sym (ap c.ended out.lost) ∙ ended) (stays e)
 
 handed_at : {R O : Type 0} (c : Course R O) (run : R) (u : Bool) (outcome : O) → u ≡ false → Some outcome ≡ ended_at c run u → c.ended run ≡ Some outcome
 handed_at c run true outcome e is = absurd (cc)
@@ -171,13 +171,10 @@ ends_closed c law run began at u v a s t z result e first kept here others drive
 
 -- ---- what is written later
 
-later_by : {R O : Type 0} (c : Course R O) (run : R) (a t : Scene) (written : Option (List ℕ)) (failed : Faults) (result : Result O Broken) → RunEnds c run a t result → RunEnds c run a (scene t.kept t.lead t.follow written failed) result
-later_by c run a t written failed result (FirstSaveFailed end asked kept is e) = FirstSaveFailed end asked kept is e
-later_by c run a t written failed result (AskFailed end broke kept e) = AskFailed end broke kept e
-later_by c run a t written failed result (LastSaveFailed end frames went saving kept is e) = LastSaveFailed end frames went saving kept is e
-later_by c run a t written failed result (RanOut earlier frame outcome went is kept e) = RanOut earlier frame outcome went is kept e
-later_by c run a t written failed result (Finished frames outcome went is kept e) = Finished frames outcome went is kept e
+later_by : {R O : Type 0} (c : Course R O) (run : R) (a t : Scene) (written : Option (List ℕ)) (failed : Faults) (outcome : O) → ComesTo c run a t outcome → ComesTo c run a (scene t.kept t.lead t.follow written failed) outcome
+later_by c run a t written failed outcome (RanOut earlier frame went is kept) = RanOut earlier frame went is kept
+later_by c run a t written failed outcome (Finished frames went is kept) = Finished frames went is kept
 
 -- what is written after a drive changes nothing of how it went
-pub written_after : {R O : Type 0} (c : Course R O) (run : R) (a t z : Scene) (result : Result O Broken) → OnlyOutput t z → RunEnds c run a t result → RunEnds c run a z result
-written_after c run a t z result only goes = subst (λ (s : Scene). RunEnds c run a s result) (sym only) (later_by c run a t z.written (record t.faults { output = z.faults.output }) result goes)
+pub written_after : {R O : Type 0} (c : Course R O) (run : R) (a t z : Scene) (outcome : O) → OnlyOutput t z → ComesTo c run a t outcome → ComesTo c run a z outcome
+written_after c run a t z outcome only comes = subst (λ (s : Scene). ComesTo c run a s outcome) (sym only) (later_by c run a t z.written (record t.faults { output = z.faults.output }) outcome comes)

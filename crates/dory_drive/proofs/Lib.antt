@@ -2,3 +2,5 @@ pub mod Asks
 pub mod Keeping
 pub mod Turns
 pub mod Finishing
+pub mod Growth
+pub mod Pairs

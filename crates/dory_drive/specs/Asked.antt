@@ -11,11 +11,11 @@ use Rattle.dory_link.specs.Told.{Told, Talk, talk, Heard, Grows, IsFolderReply}
 abbrev pub request_frame : Request → List ℕ
 request_frame r = frame_of (spelling_of_request r)
 
--- where they are told, the exchanges grew by these
+-- where they are told, the exchanges grew by these; a link that tells none goes on telling none
 abbrev pub GrewBy : Option (List Talk) → Option (List Talk) → List Talk → Type 0
-GrewBy None now more = ⊤
-GrewBy (Some before) None more = ⊥
+GrewBy None None more = ⊤
 GrewBy (Some before) (Some now) more = now ≡ before ++ more
+GrewBy _ _ more = ⊥
 
 -- where they are told, the exchanges grew, and these frames were asked
 abbrev pub AskedFrames : Option (List Talk) → Option (List Talk) → List (List ℕ) → Type 0
@@ -25,12 +25,14 @@ AskedFrames before now frames = (more : List Talk) × GrewBy before now more × 
 abbrev pub spoke : Request → List ℕ → Talk
 spoke request frame = talk (request_frame request) (Some frame)
 
--- the frame is what the folder answers to this request
+-- where folders are told, the frame is what the folder answers to this request; a link that tells none goes on telling
+-- none
 abbrev pub HasReply : Option (ℕ → Option Told) → Option (ℕ → Option Told) → Request → List ℕ → Type 0
-HasReply None now request frame = ⊤
-HasReply (Some before) None request frame = ⊥
+HasReply None None request frame = ⊤
 HasReply (Some before) (Some now) request frame =
-    (what : What) × (reply_in frame ≡ Some (record { ask = request.ask; what = what })) × IsFolderReply (before request.folder.0) (now request.folder.0) request.want what
+    (what : What) × (reply_in frame ≡ Some (record { ask = request.ask; what = what }))
+    × IsFolderReply (before request.folder.0) (now request.folder.0) request.want what
+HasReply _ _ request frame = ⊥
 
 -- a request was asked, and this frame came
 pub record Exchanged (before now : Heard) (request : Request) (frame : List ℕ) : Type 0 where
@@ -39,6 +41,20 @@ pub record Exchanged (before now : Heard) (request : Request) (frame : List ℕ)
   pub grown : Grows before.folders now.folders
   pub in_range : IsRequest request
   pub are_bytes : (i : ℕ) → slice_index frame i < 256
+
+-- what a link tells grew from one moment to a later one
+pub record Grew (before after : Heard) : Type 0 where
+  pub more : List Talk
+  pub grew : GrewBy before.exchanges after.exchanges more
+  pub grown : Grows before.folders after.folders
+
+-- This frame came to this request, wherever it was asked between two moments of a link.
+pub record FrameCame (before after : Heard) (request : Request) (frame : List ℕ) : Type 0 where
+  pub asking : Heard
+  pub answered : Heard
+  pub earlier : Grew before asking
+  pub asked : Exchanged asking answered request frame
+  pub later : Grew answered after
 
 -- a request was asked or not, and no frame came
 pub record Unanswered (before now : Heard) (request : Request) : Type 0 where

@@ -31,9 +31,12 @@ pub record Driven {Run Outcome : Type 0} (c : Course Run Outcome) (began : Run) 
   pub still : is_asking (c.asks run) unsaved ≡ false
 
 -- The last save of a run that asks nothing more: its state is kept where that is due, and then its outcome is handed back.
-pub data Closes {Run Outcome : Type 0} (c : Course Run Outcome) (run : Run) (unsaved : Bool) (before after : Scene) (result : Result Outcome Broken) : Type 0 where
-  SaveFailed : (end : Broken) → unsaved ≡ true → OldOrNew before.kept after.kept (c.kept run) → IsSaveEnd end → result ≡ Err end → Closes c run unsaved before after result
-  SaveDone : (outcome : Outcome) → c.ended run ≡ Some outcome → KeepsIf unsaved before.kept after.kept (c.kept run) → result ≡ Ok outcome → Closes c run unsaved before after result
+pub data Closes {Run Outcome : Type 0} (c : Course Run Outcome) (run : Run) (unsaved : Bool) (before after : Scene)
+    (result : Result Outcome Broken) : Type 0 where
+  SaveFailed : (end : Broken) → unsaved ≡ true → OldOrNew before.kept after.kept (c.kept run) → IsSaveEnd end → result ≡ Err end
+      → Closes c run unsaved before after result
+  SaveDone : (outcome : Outcome) → c.ended run ≡ Some outcome → KeepsIf unsaved before.kept after.kept (c.kept run) → result ≡ Ok outcome
+      → Closes c run unsaved before after result
 
 -- A run's state is kept. One that asks nothing and comes to nothing new keeps nothing.
 abbrev pub KeepsOf : {Run Outcome : Type 0} → Course Run Outcome → Run → Scene → Scene → Run → Type 0
@@ -43,21 +46,30 @@ KeepsOf c run before after later = KeepsIf (c.saves_first run) before.kept after
 abbrev pub ExchangedBetween : {Run Outcome : Type 0} → Course Run Outcome → Run → List (List ℕ) → Scene → Scene → Type 0
 ExchangedBetween c run frames before after = ExchangedInTurn c run frames (scene_links before) (scene_links after)
 
--- how a conversation goes on that has just begun, by how far it came
-pub data RunEnds {Run Outcome : Type 0} (c : Course Run Outcome) (run : Run) (before after : Scene) (result : Result Outcome Broken) : Type 0 where
+-- how a conversation broke off that had just begun, by how far it came
+pub data BreaksOff {Run Outcome : Type 0} (c : Course Run Outcome) (run : Run) (before after : Scene) (end : Broken) : Type 0 where
   -- the first save failed, and nothing was asked
-  FirstSaveFailed : (end : Broken) → AskedNothing before after → OldOrNew before.kept after.kept (c.kept run) → IsSaveEnd end → result ≡ Err end → RunEnds c run before after result
+  FirstSaveFailed : AskedNothing before after → OldOrNew before.kept after.kept (c.kept run) → IsSaveEnd end → BreaksOff c run before after end
   -- an ask brought no frame
-  AskFailed : (end : Broken) → InterruptedAfter c run (scene_links before) (scene_links after) end → KeepsOf c run before after run → result ≡ Err end → RunEnds c run before after result
+  AskFailed : InterruptedAfter c run (scene_links before) (scene_links after) end → KeepsOf c run before after run → BreaksOff c run before after end
   -- it came to its end by these frames, and the last save failed
-  LastSaveFailed : (end : Broken) (frames : List (List ℕ)) → ExchangedBetween c run frames before after → c.saves_last (run_after c run frames) ≡ true
-      → KeepsNow before.kept after.kept (c.kept run) ⊎ KeepsNow before.kept after.kept (c.kept (run_after c run frames)) → IsSaveEnd end → result ≡ Err end → RunEnds c run before after result
+  LastSaveFailed : (frames : List (List ℕ)) → ExchangedBetween c run frames before after → c.saves_last (run_after c run frames) ≡ true
+      → KeepsNow before.kept after.kept (c.kept run) ⊎ KeepsNow before.kept after.kept (c.kept (run_after c run frames)) → IsSaveEnd end
+      → BreaksOff c run before after end
+
+-- how one came to an outcome that had just begun, which was handed back
+pub data ComesTo {Run Outcome : Type 0} (c : Course Run Outcome) (run : Run) (before after : Scene) (outcome : Outcome) : Type 0 where
   -- memory ran out as it took the last of these frames, and that is its outcome
-  RanOut : (earlier : List (List ℕ)) (frame : List ℕ) (outcome : Outcome) → ExchangedBetween c run (earlier ++ frame ∷ []) before after → c.ended (c.lost (run_after c run earlier)) ≡ Some outcome
-      → KeepsOf c run before after run → result ≡ Ok outcome → RunEnds c run before after result
-  -- it came to its end by these frames and its state is kept, and then its outcome was handed back
-  Finished : (frames : List (List ℕ)) (outcome : Outcome) → ExchangedBetween c run frames before after → c.ended (run_after c run frames) ≡ Some outcome
-      → KeepsOf c run before after (run_after c run frames) → result ≡ Ok outcome → RunEnds c run before after result
+  RanOut : (earlier : List (List ℕ)) (frame : List ℕ) → ExchangedBetween c run (earlier ++ frame ∷ []) before after
+      → c.ended (c.lost (run_after c run earlier)) ≡ Some outcome → KeepsOf c run before after run → ComesTo c run before after outcome
+  -- it came to its end by these frames and its state is kept
+  Finished : (frames : List (List ℕ)) → ExchangedBetween c run frames before after → c.ended (run_after c run frames) ≡ Some outcome
+      → KeepsOf c run before after (run_after c run frames) → ComesTo c run before after outcome
+
+-- how a conversation goes on that has just begun
+abbrev pub RunEnds : {Run Outcome : Type 0} → Course Run Outcome → Run → Scene → Scene → Result Outcome Broken → Type 0
+RunEnds c run before after (Err end) = BreaksOff c run before after end
+RunEnds c run before after (Ok outcome) = ComesTo c run before after outcome
 
 -- what is handed back
 abbrev pub handed : {Outcome : Type 0} → Result (Bor Outcome) Broken → Result Outcome Broken

@@ -7,3 +7,4 @@ pub mod Kept
 pub mod Driven
 pub mod Member
 pub mod MemberLaws
+pub mod Pair

@@ -20,6 +20,11 @@ pub record Links : Type 0 where
 abbrev pub links : Heard → Heard → Links
 links lead follow = record { lead = lead; follow = follow }
 
+-- what the link to the domain of this side tells
+abbrev pub link_at : Side → Links → Heard
+link_at Lead l = l.lead
+link_at Follow l = l.follow
+
 -- what both links tell at a moment
 abbrev pub scene_links : Scene → Links
 scene_links s = links s.lead s.follow
@@ -47,7 +52,8 @@ PutUnanswered (Some put) before after end = UnansweredOver put.0 before after pu
 -- These frames came to a run, one after another, each to what it asked.
 abbrev pub ExchangedInTurn : {Run Outcome : Type 0} → Course Run Outcome → Run → List (List ℕ) → Links → Links → Type 0
 ExchangedInTurn c run [] before after = after ≡ before
-ExchangedInTurn c run (frame ∷ frames) before after = (m : Links) × PutAnswered (c.asks run) before m frame × ExchangedInTurn c (c.took run frame) frames m after
+ExchangedInTurn c run (frame ∷ frames) before after =
+    (m : Links) × PutAnswered (c.asks run) before m frame × ExchangedInTurn c (c.took run frame) frames m after
 
 -- a run went on by these frames, and then got stuck
 pub record InterruptedAfter {Run Outcome : Type 0} (c : Course Run Outcome) (run : Run) (before after : Links) (end : Broken) : Type 0 where

@@ -36,8 +36,10 @@ fn ask<W: Outside>(
 ) -> Result<Vec<u8>, Broken>
     ensures lent { W.lent outside.new ≡ W.lent outside.old }
     ensures only { OnlyLink side (W.scene outside.old) (W.scene outside.new) }
-    ensures asked { (request : Request) → IsFrameOf request frame.now → IfOk result (λ came. ExchangedOver side (scene_links (W.scene outside.old)) (scene_links (W.scene outside.new)) request came.items) }
-    ensures unanswered { (request : Request) → IsFrameOf request frame.now → OnErr result (UnansweredOver side (scene_links (W.scene outside.old)) (scene_links (W.scene outside.new)) request) }
+    ensures asked { (request : Request) → IsFrameOf request frame.now
+        → IfOk result (λ came. ExchangedOver side (scene_links (W.scene outside.old)) (scene_links (W.scene outside.new)) request came.items) }
+    ensures unanswered { (request : Request) → IsFrameOf request frame.now
+        → OnErr result (UnansweredOver side (scene_links (W.scene outside.old)) (scene_links (W.scene outside.new)) request) }
     ensures cause { HasCause (link_faults side (W.scene outside.old)) (link_faults side (W.scene outside.new)) (IsErrOf result (Broken.LinkFault side)) }
     ensures ends { IfErr result (IsAskEnd side) }
 {
@@ -57,7 +59,8 @@ fn talk<C: Conversation, W: Outside>(
     requires { C.unsaved conversation.old ≡ false }
     ensures lent { W.lent outside.new ≡ W.lent outside.old }
     ensures only { OnlyLinks (W.scene outside.old) (W.scene outside.new) }
-    ensures driven { OnOk result (Driven C.course (C.run conversation.old) (scene_links (W.scene outside.old)) (scene_links (W.scene outside.new)) (C.run conversation.new) (C.unsaved conversation.new)) }
+    ensures driven { OnOk result (Driven C.course (C.run conversation.old) (scene_links (W.scene outside.old)) (scene_links (W.scene outside.new))
+        (C.run conversation.new) (C.unsaved conversation.new)) }
     ensures broke { IfErr result (InterruptedAfter C.course (C.run conversation.old) (scene_links (W.scene outside.old)) (scene_links (W.scene outside.new))) }
     ensures lead { HasCause (W.scene outside.old).faults.lead (W.scene outside.new).faults.lead (IsErrOf result (Broken.LinkFault sides.Lead)) }
     ensures follow { HasCause (W.scene outside.old).faults.follow (W.scene outside.new).faults.follow (IsErrOf result (Broken.LinkFault sides.Follow)) }

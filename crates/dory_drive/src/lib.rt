@@ -4,6 +4,7 @@
 mod broken;
 mod conversation;
 mod driving;
+mod law;
 mod member;
 mod outside;
 mod save;
@@ -13,5 +14,6 @@ mod tests;
 pub use broken::Broken;
 pub use conversation::Conversation;
 pub use driving::drive;
+pub use law::{came_in_turn, right_beside_a_told_link};
 pub use outside::{Borrowed, Outside};
 pub use save::keep;

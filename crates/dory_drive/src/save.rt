@@ -44,8 +44,10 @@ pub fn save<C: Conversation, W: Outside>(
     ensures only { OnlyKeeper (W.scene outside.old) (W.scene outside.new) }
     ensures run { C.run conversation.new ≡ C.run conversation.old }
     ensures saved { OnOk result (C.unsaved conversation.new ≡ false) }
-    ensures kept { OnOk result (KeepsIf (C.unsaved conversation.old) (W.scene outside.old).kept (W.scene outside.new).kept (C.course.kept (C.run conversation.old))) }
-    ensures unkept { OnErr result (OldOrNew (W.scene outside.old).kept (W.scene outside.new).kept (C.course.kept (C.run conversation.old))) }
+    ensures kept { OnOk result (KeepsIf (C.unsaved conversation.old) (W.scene outside.old).kept (W.scene outside.new).kept
+        (C.course.kept (C.run conversation.old))) }
+    ensures unkept { OnErr result (OldOrNew (W.scene outside.old).kept (W.scene outside.new).kept
+        (C.course.kept (C.run conversation.old))) }
     ensures due { OnErr result (C.unsaved conversation.old ≡ true) }
     ensures cause { HasCause (W.scene outside.old).faults.keeper (W.scene outside.new).faults.keeper (IsErrOf result Broken.KeeperFault) }
     ensures ends { IfErr result IsSaveEnd }

@@ -5,8 +5,9 @@ use Rattle.dory_base.specs.declared.entry.Entry.{Entry}
 use Rattle.dory_base.specs.declared.refusal.Refusal.TheVariants.{NoMemory}
 use Rattle.dory_base.specs.History.{IsPrefix}
 use Rattle.dory_base.specs.Log.{staged_as}
-use Rattle.dory_base.specs.Step.{Event, State, log_of, after_maybe, state_appended}
-use Rattle.dory_base.specs.Step.Event.{Staged, Appended}
+use Rattle.dory_base.specs.declared.event.Event.{Event}
+use Rattle.dory_base.specs.Step.{State, log_of, after_maybe, state_appended}
+use Rattle.dory_base.specs.declared.event.Event.TheVariants.{Staged, Appended}
 use Rattle.dory_base.proofs.StepLaws.{history_is}
 use Rattle.dory_dpf.specs.PointKey.{PointKey}
 use Rattle.dory_wire.specs.declared.message.Request.{Request}
@@ -201,7 +202,7 @@ stayed_grows : (folders now : List Held) → now ≡ folders → Grows (Some (to
 stayed_grows folders now stays = subst (λ (fs : List Held). Grows (Some (told_folders folders)) (Some (told_folders fs))) (sym stays) (grows_not folders)
 
 -- whatever a domain makes of a message, its histories only grow
-pub response_grows : (folders now : List Held) (message : List ℕ) (result : Result (Vec ℕ Global) WireFault) → Responds folders message result now → Grows (Some (told_folders folders)) (Some (told_folders now))
+pub response_grows : (folders now : List Held) (message : List ℕ) (result : Result (Vec ℕ Global) WireFault) → Responds IsAnswered folders message result now → Grows (Some (told_folders folders)) (Some (told_folders now))
 response_grows folders now message (Ok frame) by = answered_grows folders now message frame.items by
 response_grows folders now message (Err (Kind b)) by = stayed_grows folders now by.1
 response_grows folders now message (Err (Body at)) by = stayed_grows folders now by.1

@@ -38,9 +38,11 @@ abbrev pub frames : {E : Type 0} → Result (Vec ℕ Global) E → Result (List 
 frames (Ok frame) = Ok frame.items
 frames (Err e) = Err e
 
--- The exchanges after an ask. One that finds no memory adds nothing, or its request.
+-- The exchanges after an ask: a link tells them before and after it, or never. One that finds no memory adds nothing, or
+-- its request.
 abbrev pub Adds : Option (List Talk) → Option (List Talk) → List ℕ → Result (List ℕ) LinkError → Type 0
-Adds None now request result = ⊤
+Adds None None request result = ⊤
+Adds None (Some now) request result = ⊥
 Adds (Some before) None request result = ⊥
 Adds (Some before) (Some now) request (Ok frame) = now ≡ before ++ talk request (Some frame) ∷ []
 Adds (Some before) (Some now) request (Err link.Failed) = now ≡ before ++ talk request None ∷ []
@@ -59,9 +61,10 @@ Grown None (Some now) = ⊥
 Grown (Some before) None = ⊥
 Grown (Some before) (Some now) = GrownFrom before now
 
--- the same folders are told before and now, each grown
+-- no folders are told, before or now, or the same ones are, each grown
 abbrev pub Grows : Option (ℕ → Option Told) → Option (ℕ → Option Told) → Type 0
-Grows None now = ⊤
+Grows None None = ⊤
+Grows None (Some now) = ⊥
 Grows (Some before) None = ⊥
 Grows (Some before) (Some now) = (folder : ℕ) → Grown (before folder) (now folder)
 
@@ -109,9 +112,10 @@ IsFolderReply None now want what = what ≡ Refused NoFolder
 IsFolderReply (Some before) None want what = ⊥
 IsFolderReply (Some before) (Some now) want what = IsReplyTo before now want what
 
--- the frame is a reply to the request that was sent
+-- where the folders are told, the frame is a reply to the request that was sent
 abbrev pub IsReplyFrame : Option (ℕ → Option Told) → Option (ℕ → Option Told) → List ℕ → List ℕ → Type 0
-IsReplyFrame None now sent frame = ⊤
+IsReplyFrame None None sent frame = ⊤
+IsReplyFrame None (Some now) sent frame = ⊥
 IsReplyFrame (Some before) None sent frame = ⊥
 IsReplyFrame (Some before) (Some now) sent frame =
     (request : Request) → request_in sent ≡ Some request →

@@ -13,7 +13,7 @@ pub enum LinkError {
 
 /// Carries one whole frame to a domain, and gives one frame as it came.
 pub trait Link {
-    /// What was asked and what came, and the domain's folders, each where it tells them.
+    /// What was asked and what came, and the domain's folders, each told at every moment or never.
     ghost heard: { Self → Heard };
 
     ghost faults: { Self → ℕ };
