@@ -1,61 +1,44 @@
 -- Which frames were asked of each link in a call.
-use Rattle.std.proofs.Common.{◌≡◌, ℕ, zero, suc, List, [], ◌∷◌, ◌++◌, append_assoc, append-nil, map, take, Option, None, Some, Result, Ok, Err, refl, ap, sym, ◌∙◌, subst, inl, inr}
-use Rattle.std.proofs.lemmas.List.{map-append}
+use Rattle.std.proofs.Common.{◌≡◌, ℕ, zero, suc, List, [], ◌∷◌, ◌++◌, append_assoc, map, take, Option, None, Some, refl, ap, sym, ◌∙◌, subst, inl, inr}
 use Rattle.dory_base.specs.declared.ids.Side.{Side}
 use Rattle.dory_base.specs.declared.ids.Side.TheVariants.{Lead, Follow}
 use Rattle.dory_wire.specs.declared.message.Request.{Request}
 use Rattle.dory_link.specs.Told.{Heard, Talk}
 use Rattle.dory_cli.specs.Line.{line_of}
-use Rattle.dory_cli.specs.declared.line.Line.{Line}
-use Rattle.dory_cli.specs.declared.fault.UsageFault.{UsageFault}
 use Rattle.dory_state.specs.declared.kept.KeptState.{KeptState}
-use Rattle.dory_member.specs.declared.outcome.Outcome.{Outcome}
-use Rattle.dory_member.specs.declared.phase.Phase.{Phase}
-use Rattle.dory_member.specs.declared.phase.Phase.TheVariants.{Updating, Measuring, Searching, Ended}
+use Rattle.dory_member.specs.declared.outcome.Fault.TheVariants as fault
+use Rattle.dory_member.specs.declared.outcome.Outcome.TheVariants.{Failed}
 use Rattle.dory_member.specs.declared.phase.Run.{Run}
-use Rattle.dory_member.specs.Course.{Ask, Put, asked_of, asks, ended_of, outcome_at, put_at, ask_request, run_after, took}
+use Rattle.dory_member.specs.Course.{Ask, Put, asked_of, asks, put_at, ask_request, took}
+use Rattle.dory_drive.specs.declared.broken.Broken.{Broken}
+use Rattle.dory_drive.specs.declared.broken.Broken.TheVariants as broken
+use Rattle.dory_drive.specs.Asked.{AskedFrames, request_frame, spoke}
+use Rattle.dory_drive.specs.Course.{run_after as driven_run}
+use Rattle.dory_drive.specs.Driven.{AskFailed, Finished, FirstSaveFailed, LastSaveFailed, RanOut}
+use Rattle.dory_drive.specs.Member.{member_course, put_of}
+use Rattle.dory_drive.specs.Scene.{AskedNothing, Scene}
+use Rattle.dory_drive.proofs.Growth.{asked_on, grew_none}
+use Rattle.dory_drive.specs.Way.{scene_links, ExchangedOver, Links, PutUnanswered, UnansweredOver}
 use Rattle.dory_client.specs.declared.start.Todo.{Todo}
-use Rattle.dory_client.specs.declared.start.Start.{Start}
-use Rattle.dory_client.specs.declared.start.Start.TheVariants.{Init, Act}
 use Rattle.dory_client.specs.declared.end.ClientEnd.{ClientEnd}
 use Rattle.dory_client.specs.declared.end.ClientEnd.TheVariants as ends
-use Rattle.dory_drive.specs.Asked.{AskedFrames, GrewBy, request_frame, spoke}
+use Rattle.dory_client.specs.CallAsks.{AsksInAll, Nothing, InTurn, Asks, HasAsked, CallAsks, heard_by, put_to}
 use Rattle.dory_client.specs.CallEffects.{IsBegun}
-use Rattle.dory_client.specs.Ends.{AskFailsAs, IsKeeperEnd}
-use Rattle.dory_client.specs.CommandEnds.{CommandEnds, FirstSaveFailed, AskFailed, RanOut, CommandFailed, LastSaveFailed, CommandPrinted}
-use Rattle.dory_drive.specs.Way.{scene_links, ExchangedOver, Links, UnansweredOver}
-use Rattle.dory_client.specs.CallAsks.{AsksInAll, Nothing, InTurn, Asks, HasAsked, CallAsks, LineAsks, StartAsks, heard_by, put_to}
-use Rattle.dory_client.specs.Run.{IsRun, Loads, Unloaded, Loaded, Runs, StartsIn}
-use Rattle.dory_client.specs.Scene.{Input}
-use Rattle.dory_drive.specs.Scene.{AskedNothing, Scene}
-use Rattle.dory_client.specs.Start.{start_of}
-use Rattle.dory_client.specs.Way.{Interrupted, RunExchanged, ExchangedInTurn}
-use Rattle.dory_client.proofs.Acting.{BeginsOrNot, begins_or_not}
+use Rattle.dory_client.specs.CommandEnds.{CommandEnds, BrokeOff, CommandFailed, CommandTold, ExchangedBetween}
+use Rattle.dory_client.specs.Ends.{broken_end, fault_end, kind_of}
+use Rattle.dory_client.specs.Run.{IsRun}
+use Rattle.dory_client.specs.Scene.{Input, met}
+use Rattle.dory_client.specs.Way.{RunExchanged, ExchangedInTurn}
+use Rattle.dory_client.proofs.Acting.{BeginsOrNot, FirstOrNot, at_break, by_words}
+use Rattle.dory_client.proofs.WayLaws.{at_end, lost_bad, lost_fails, same_run, saved}
 
 -- ---- exchanges that grow
 
 abbrev frames_to : Side → List Put → List (List ℕ)
 frames_to s puts = map request_frame (put_to s puts)
 
-grew_none : (x : Option (List Talk)) → GrewBy x x []
-grew_none None = tt
-grew_none (Some talks) = sym (append-nil talks)
-
-grew_on : (a b c : Option (List Talk)) (x y : List Talk) → GrewBy a b x → GrewBy b c y → GrewBy a c (x ++ y)
-grew_on None b c x y p q = tt
-grew_on (Some a) None c x y p q = absurd p
-grew_on (Some a) (Some b) None x y p q = absurd q
-grew_on (Some a) (Some b) (Some c) x y p q = q ∙ ap (λ (v : List Talk). v ++ y) p ∙ append_assoc a x y
-
 asked_none : (x : Option (List Talk)) → AskedFrames x x []
 asked_none x = ([], grew_none x, refl)
-
-asked_on : (a b c : Option (List Talk)) (x y : List (List ℕ)) → AskedFrames a b x → AskedFrames b c y → AskedFrames a c (x ++ y)
-asked_on a b c x y (m, grew, are) (n, grew', are') = (
-  m ++ n,
-  grew_on a b c m n grew grew',
-  map-append (λ (t : Talk). t.request) m n ∙ ap (λ (v : List (List ℕ)). v ++ map (λ (t : Talk). t.request) n) are ∙ ap (λ (v : List (List ℕ)). x ++ v) are',
-)
 
 -- ---- one ask
 
@@ -94,7 +77,7 @@ turned_part s run (Some ask) puts a n z frame rest over p =
     }
 
 -- a run that went on by these replies, and then put a part of what it puts next
-went_part : (s : Side) (run : Run) (came : List (List ℕ)) (a m z : Links) (rest : List (List ℕ)) → ExchangedInTurn run came a m → Part s (frames_to s (put_at (run_after run came) (asks (run_after run came).phase))) m z rest → Part s (frames_to s (asked_of run came)) a z rest
+went_part : (s : Side) (run : Run) (came : List (List ℕ)) (a m z : Links) (rest : List (List ℕ)) → ExchangedInTurn run came a m → Part s (frames_to s (put_at (driven_run member_course run came) (asks (driven_run member_course run came).phase))) m z rest → Part s (frames_to s (asked_of run came)) a z rest
 went_part s run [] a m z rest same p = subst (λ (l : Links). Part s (frames_to s (put_at run (asks run.phase))) l z rest) same p
 went_part s run (f ∷ came) a m z rest (n, turned, more) p = turned_part s run (asks run.phase) (asked_of (took run f) came) a n z f rest turned (went_part s (took run f) came n m z rest more p)
 
@@ -119,77 +102,67 @@ stuck_part Follow Follow r m z (same, u) =
     let t = tried_part u.times (request_frame r) m.follow.exchanges z.follow.exchanges u.asked in
     (t.0, record { first = t.1; are = t.2; asked = t.3 })
 
-stuck_puts : (s : Side) (run : Run) (o : Option Ask) (m z : Links) (end : ClientEnd) → Interrupted run o m z end → (rest : List (List ℕ)) × Part s (frames_to s (put_at run o)) m z rest
-stuck_puts s run None m z end stuck = absurd stuck
-stuck_puts s run (Some ask) m z end stuck = stuck_part s ask.side (ask_request run ask) m z stuck.0
-
--- ---- ends at which something may be left to ask
-
-not_whole : (end other : ClientEnd) → end ≡ other → (HasAsked other → ⊥) → (rest : List (List ℕ)) → HasAsked end → rest ≡ []
-not_whole end other e isnt rest has = absurd (isnt (subst HasAsked e has))
-
-keeper_whole : (end : ClientEnd) → IsKeeperEnd end → (rest : List (List ℕ)) → HasAsked end → rest ≡ []
-keeper_whole end (inl e) = not_whole end ends.KeeperFault e (λ h. h)
-keeper_whole end (inr e) = not_whole end ends.NoMemory e (λ h. h)
-
-link_whole : (s : Side) (end : ClientEnd) → AskFailsAs s end → (rest : List (List ℕ)) → HasAsked end → rest ≡ []
-link_whole s end (inl e) = not_whole end (ends.LinkFault s) e (λ h. h)
-link_whole s end (inr e) = not_whole end ends.NoMemory e (λ h. h)
-
-stuck_whole : (run : Run) (o : Option Ask) (m z : Links) (end : ClientEnd) → Interrupted run o m z end → (rest : List (List ℕ)) → HasAsked end → rest ≡ []
-stuck_whole run None m z end stuck = absurd stuck
-stuck_whole run (Some ask) m z end stuck = link_whole ask.side end stuck.1
+stuck_puts : (s : Side) (run : Run) (o : Option Ask) (m z : Links) (b : Broken) → PutUnanswered (put_of run o) m z b → (rest : List (List ℕ)) × Part s (frames_to s (put_at run o)) m z rest
+stuck_puts s run None m z b stuck = absurd stuck
+stuck_puts s run (Some ask) m z b stuck = stuck_part s ask.side (ask_request run ask) m z stuck.0
 
 -- ---- how a command goes on
 
-as_asks : (run : Run) (came : List (List ℕ)) (s : Side) (a z : Links) (end : ClientEnd) (rest : List (List ℕ)) → Part s (frames_to s (asked_of run came)) a z rest → (HasAsked end → rest ≡ []) → Asks run came s a z end
+-- something may be left to ask where a conversation broke off, and where memory ran out
+broke_left : (b : Broken) → HasAsked (kind_of (broken_end b)) → ⊥
+broke_left broken.KeeperFault has = has
+broke_left _ has = has
+
+as_asks : (run : Run) (came : List (List ℕ)) (s : Side) (a z : Links) (end : ClientEnd) (rest : List (List ℕ)) → Part s (frames_to s (asked_of run came)) a z rest → (HasAsked (kind_of end) → rest ≡ []) → Asks run came s a z end
 as_asks run came s a z end rest p whole = record { frames = p.first; rest = rest; are = p.are; asked = p.asked; whole = whole }
 
-at_end : (p : Phase) (o : Outcome) → outcome_at p ≡ Some o → asks p ≡ None
-at_end (Updating e at) o is = absurd (cc)
-at_end (Measuring word lead) o is = absurd (cc)
-at_end (Searching q lead) o is = absurd (cc)
-at_end (Ended x) o is = refl
-
--- a command that came to its end has asked all
-ended_asks : (run : Run) (came : List (List ℕ)) (o : Outcome) (s : Side) (a z : Links) (end : ClientEnd) → ExchangedInTurn run came a z → ended_of run came ≡ Some o → Asks run came s a z end
-ended_asks run came o s a z end went ended =
-    let none : frames_to s (put_at (run_after run came) (asks (run_after run came).phase)) ≡ [] = ap (λ (x : Option Ask). frames_to s (put_at (run_after run came) x)) (at_end (run_after run came).phase o ended) in
+-- a command that asks nothing more has asked all
+ended_asks : (run : Run) (came : List (List ℕ)) (s : Side) (a z : Links) (end : ClientEnd) → ExchangedInTurn run came a z → asks (driven_run member_course run came).phase ≡ None → Asks run came s a z end
+ended_asks run came s a z end went ended =
+    let last : Run = driven_run member_course run came in
+    let none : frames_to s (put_at last (asks last.phase)) ≡ [] = ap (λ (x : Option Ask). frames_to s (put_at last x)) ended in
     as_asks run came s a z end [] (went_part s run came a z z [] went (subst (λ (v : List (List ℕ)). Part s v z z []) (sym none) (none_part s [] z))) (λ has. refl)
 
-goes_asks : (t : Todo) (seed : List ℕ) (i i' : Input) (a z : Scene) (end : ClientEnd) (k : KeptState) (r : Run) → IsBegun t seed i i' a k r → CommandEnds r a z end → AsksInAll t seed i i' a z end
-goes_asks t seed i i' a z end k r begun (FirstSaveFailed asked kept wrote is) = Nothing asked
-goes_asks t seed i i' a z end k r begun (AskFailed broke kept wrote) = InTurn k r broke.frames begun (λ s.
-    let p = stuck_puts s (run_after r broke.frames) (asks (run_after r broke.frames).phase) broke.between (scene_links z) end broke.stuck in
-    as_asks r broke.frames s (scene_links a) (scene_links z) end p.0 (went_part s r broke.frames (scene_links a) broke.between (scene_links z) p.0 broke.went p.1)
-    (stuck_whole (run_after r broke.frames) (asks (run_after r broke.frames).phase) broke.between (scene_links z) end broke.stuck p.0))
-goes_asks t seed i i' a z end k r begun (RanOut frames went kept wrote is) = InTurn k r frames begun (λ s.
-    let rest : List (List ℕ) = frames_to s (put_at (run_after r frames) (asks (run_after r frames).phase)) in
-    as_asks r frames s (scene_links a) (scene_links z) end rest (went_part s r frames (scene_links a) (scene_links z) (scene_links z) rest went (none_part s rest (scene_links z)))
-    (not_whole end ends.NoMemory is (λ h. h) rest))
-goes_asks t seed i i' a z end k r begun (CommandFailed frames f went ended kept wrote is) = InTurn k r frames begun (λ s. ended_asks r frames _ s (scene_links a) (scene_links z) end went ended)
-goes_asks t seed i i' a z end k r begun (LastSaveFailed frames o went ended new kept wrote is) = InTurn k r frames begun (λ s. ended_asks r frames o s (scene_links a) (scene_links z) end went ended)
-goes_asks t seed i i' a z end k r begun (CommandPrinted frames o went ended good kept says) = InTurn k r frames begun (λ s. ended_asks r frames o s (scene_links a) (scene_links z) end went ended)
+goes_asks : (t : Todo) (seed : List ℕ) (i i' : Input) (a z : Scene) (end : ClientEnd) (k : KeptState) (r : Run) → IsBegun t seed (met i a) (met i' z) k r → CommandEnds r a z end → AsksInAll t seed (met i a) (met i' z) end
+goes_asks t seed i i' a z end k r begun goes = by goes
+  where
+    all : (frames : List (List ℕ)) → ExchangedBetween r frames a z → asks (driven_run member_course r frames).phase ≡ None → AsksInAll t seed (met i a) (met i' z) end
+    all frames went none = InTurn k r frames begun (λ has. subst (λ (x : Run). asks x.phase ≡ None) (same_run r frames) none) (λ s. ended_asks r frames s (scene_links a) (scene_links z) end went none)
+
+    stopped : (x : ClientEnd) → end ≡ x → (HasAsked (kind_of x) → ⊥) → HasAsked (kind_of end) → ⊥
+    stopped x is left has = left (subst (λ (e : ClientEnd). HasAsked (kind_of e)) is has)
+
+    some : (frames : List (List ℕ)) → (HasAsked (kind_of end) → ⊥) → ((s : Side) → (rest : List (List ℕ)) × Part s (frames_to s (asked_of r frames)) (scene_links a) (scene_links z) rest) → AsksInAll t seed (met i a) (met i' z) end
+    some frames left parts = InTurn k r frames begun (λ has. absurd (left has)) (λ s. as_asks r frames s (scene_links a) (scene_links z) end (parts s).0 (parts s).1 (λ has. absurd (left has)))
+
+    by : CommandEnds r a z end → AsksInAll t seed (met i a) (met i' z) end
+    by (BrokeOff b (FirstSaveFailed asked kept save) w is) = Nothing asked (at_break end b is)
+    by (BrokeOff b (AskFailed broke kept) w is) = some broke.frames (stopped (broken_end b) is (broke_left b)) (λ s.
+        let last : Run = driven_run member_course r broke.frames in
+        let p = stuck_puts s last (asks last.phase) broke.between (scene_links z) b broke.stuck in
+        (p.0, went_part s r broke.frames (scene_links a) broke.between (scene_links z) p.0 broke.went p.1))
+    by (BrokeOff b (LastSaveFailed frames went saving kept save) w is) = all frames went (at_end _ _ (saved _ saving).1)
+    by (CommandFailed f (RanOut earlier frame went lost kept) w is) =
+        let failed : Failed f ≡ Failed fault.NoMemory = lost_fails (Failed f) lost in
+        let same : f ≡ fault.NoMemory = cc in
+        let last : Run = driven_run member_course r (earlier ++ frame ∷ []) in
+        some (earlier ++ frame ∷ []) (stopped ends.NoMemory (is ∙ ap fault_end same) (λ h. h)) (λ s.
+        (frames_to s (put_at last (asks last.phase)), went_part s r (earlier ++ frame ∷ []) (scene_links a) (scene_links z) (scene_links z) _ went (none_part s _ (scene_links z))))
+    by (CommandFailed f (Finished frames went ended kept) w is) = all frames went (at_end _ _ ended)
+    by (CommandTold o good (RanOut earlier frame went lost kept) says) = lost_bad o lost good
+    by (CommandTold o good (Finished frames went ended kept) says) = all frames went (at_end _ o ended)
 
 -- ---- a whole call
 
-by_beginning : (t : Todo) (seed : List ℕ) (i i' : Input) (a z : Scene) (end : ClientEnd) → BeginsOrNot t seed i i' a z end → AsksInAll t seed i i' a z end
-by_beginning t seed i i' a z end (inl (u, undone)) = Nothing u.asked
-by_beginning t seed i i' a z end (inr (k, r, begun, goes)) = goes_asks t seed i i' a z end k r begun goes
+begun_asks : (t : Todo) (seed : List ℕ) (i i' : Input) (a z : Scene) (end : ClientEnd) → BeginsOrNot t seed i i' a z end → AsksInAll t seed (met i a) (met i' z) end
+begun_asks t seed i i' a z end (inl (u, quiet)) = Nothing u.asked quiet
+begun_asks t seed i i' a z end (inr (k, r, begun, goes)) = goes_asks t seed i i' a z end k r begun goes
 
-first_puts : (first : KeptState) (kept : Option (List ℕ)) (seed : List ℕ) (i i' : Input) (a z : Scene) (end : ClientEnd) → StartsIn (Init first) kept seed i i' a z end → AskedNothing a z
-first_puts first None seed i i' a z end (unread, asked, b) = asked
-first_puts first (Some bytes) seed i i' a z end (quiet, e) = quiet.1.asked
-
-start_puts : (s : Start) (seed : List ℕ) (i i' : Input) (a z : Scene) (end : ClientEnd) → Loads s seed i i' a z end → StartAsks s seed i i' a z end
-start_puts (Init first) seed i i' a z end (Unloaded quiet is) = quiet.1.asked
-start_puts (Init first) seed i i' a z end (Loaded kept told s) = first_puts first kept seed i i' a z end s
-start_puts (Act t) seed i i' a z end loads = by_beginning t seed i i' a z end (begins_or_not t seed i i' a z end loads)
-
-line_puts : (r : Result Line UsageFault) (seed : List ℕ) (i i' : Input) (a z : Scene) (end : ClientEnd) → Runs r seed i i' a z end → LineAsks r seed i i' a z end
-line_puts (Ok line) seed i i' a z end loads = start_puts (start_of line) seed i i' a z end loads
-line_puts (Err fault) seed i i' a z end (quiet, e) = quiet.1.asked
+first_asks : (first : KeptState) (a z : Scene) (end : ClientEnd) → FirstOrNot first a z end → AskedNothing a z
+first_asks first a z end (inl (u, quiet)) = u.asked
+first_asks first a z end (inr (asked, b)) = asked
 
 -- what a call asks
-pub puts : (words : List (List ℕ)) (seed : List ℕ) (i i' : Input) (a z : Scene) (end : ClientEnd) → IsRun words seed i i' a z end → CallAsks words seed i i' a z end
-puts words seed i i' a z end run = line_puts (line_of words) seed i i' a z end run
+pub puts : (words : List (List ℕ)) (seed : List ℕ) (i i' : Input) (a z : Scene) (end : ClientEnd) → IsRun words seed (met i a) (met i' z) end → CallAsks words seed (met i a) (met i' z) end
+puts words seed i i' a z end run =
+    by_words (line_of words) seed i i' a z end (λ first. AskedNothing a z) (λ t. AsksInAll t seed (met i a) (met i' z) end) (AskedNothing a z) (λ first. first_asks first a z end) (λ t. begun_asks t seed i i' a z end) (λ still. still.0.asked) run

@@ -9,12 +9,13 @@ use Rattle.dory_member.specs.declared.command.Command.TheVariants as command
 use Rattle.dory_member.specs.declared.outcome.Fault.{Fault}
 use Rattle.dory_member.specs.declared.outcome.Fault.TheVariants as fault
 use Rattle.dory_member.specs.declared.outcome.Outcome.{Outcome}
+use Rattle.dory_member.specs.declared.outcome.Outcome.TheVariants.{NothingPending, Rotated}
 use Rattle.dory_member.specs.declared.phase.Phase.TheVariants.{Updating, Measuring, Ended}
 use Rattle.dory_member.specs.declared.phase.Run.{Run}
 use Rattle.dory_member.specs.declared.phase.UpdateStep.TheVariants.{StageFollow}
-use Rattle.dory_member.specs.Course.{asking, begun, if_finished, if_serial, posting, refused_if, removing, resumed}
+use Rattle.dory_member.specs.Course.{asking, begun, ended_with, if_finished, if_serial, posting, refused_if, removing, resumed}
 use Rattle.dory_client.specs.CommandEnds.{IsGood}
-use Rattle.dory_member.specs.Draw.{is_last_epoch, is_last_serial, is_used_up, ready, turned}
+use Rattle.dory_member.specs.Draw.{epoch_in, is_last_epoch, is_last_serial, is_used_up, ready, turned}
 
 pub data Kind (k : KeptState) (seed : List ℕ) (c : Command) (run : Run) : Type 0 where
   Updates : (e : Entry) → run.phase ≡ Updating e StageFollow → Kind k seed c run
@@ -50,7 +51,7 @@ begins_as : (k : KeptState) (seed : List ℕ) (c : Command) (r run : Run) → ok
 begins_as k seed c r run e b = let same : r ≡ run = cc in subst (IsBeginning k seed c) same b
 
 taken_up : (k : KeptState) (seed : List ℕ) (p : Option Pending) (run : Run) → resumed k seed p ≡ ok_run run → IsBeginning k seed command.Resume run
-taken_up k seed None run e = begins_as k seed command.Resume _ run e (record { seen = refl; folder = refl; kind = Rests _ tt refl })
+taken_up k seed None run e = begins_as k seed command.Resume _ run e (record { seen = refl; folder = refl; kind = Rests NothingPending (λ f is. cc) refl })
 taken_up k seed (Some p) run e = begins_as k seed command.Resume _ run (ok_if _ _ _ run e) (record { seen = refl; folder = refl; kind = Updates _ refl })
 
 pub beginning : (k : KeptState) (seed : List ℕ) (c : Command) (run : Run) → begun k seed c ≡ Ok run → IsBeginning k seed c run
@@ -65,8 +66,28 @@ beginning k seed (command.Remove doc) run e = begins_as k seed (command.Remove d
 beginning k seed (command.Search word) run e = begins_as k seed (command.Search word) _ run (ok_if _ _ _ run e) (record { seen = refl; folder = refl; kind = Searches word refl refl })
 beginning k seed command.Resume run e = taken_up k seed k.pending run e
 beginning k seed command.Latest run e = begins_as k seed command.Latest _ run (ok_if _ _ _ run e) (record { seen = refl; folder = refl; kind = Measures refl refl })
-beginning k seed command.Rotate run e = begins_as k seed command.Rotate _ run (ok_if _ _ _ run e) (record { seen = refl; folder = refl; kind = Rests _ tt refl })
+beginning k seed command.Rotate run e = begins_as k seed command.Rotate _ run (ok_if _ _ _ run e) (record { seen = refl; folder = refl; kind = Rests (Rotated (epoch_in (turned k).next_serial)) (λ f is. cc) refl })
+
+-- ---- the runs of commands that are one run
+
+if_last : (k : KeptState) (r run : Run) → if_serial k (Ok r) ≡ ok_run run → run ≡ r
+if_last k r run e = let same : ok_run r ≡ ok_run run = ok_if (is_last_serial k) fault.SerialEnd (Ok r) run e in cc
 
 -- the run of a search
 pub search_begins : (k : KeptState) (seed word : List ℕ) (run : Run) → begun k seed (command.Search word) ≡ Ok run → run ≡ asking k seed k.used (Measuring (Some word) None)
-search_begins k seed word run e = let same : ok_run (asking k seed k.used (Measuring (Some word) None)) ≡ ok_run run = ok_if _ _ _ run e in cc
+search_begins k seed word run e = if_last k _ run e
+
+-- and of the two lengths
+pub latest_begins : (k : KeptState) (seed : List ℕ) (run : Run) → begun k seed command.Latest ≡ Ok run → run ≡ asking k seed k.used (Measuring None None)
+latest_begins k seed run e = if_last k _ run e
+
+-- the runs that ask nothing
+pub rotate_begins : (k : KeptState) (seed : List ℕ) (run : Run) → begun k seed command.Rotate ≡ Ok run → (o : Outcome) × IsGood o × (run.phase ≡ Ended o)
+rotate_begins k seed run e =
+    let o : Outcome = Rotated (epoch_in (turned k).next_serial) in
+    let same : ok_run (ended_with (turned k) seed o) ≡ ok_run run = ok_if (is_last_epoch k) fault.EpochEnd (Ok (ended_with (turned k) seed o)) run e in
+    (o, (λ f is. cc), cc)
+
+pub rest_begins : (k : KeptState) (seed : List ℕ) (p : Option Pending) (run : Run) → p ≡ None → resumed k seed p ≡ Ok run → (o : Outcome) × IsGood o × (run.phase ≡ Ended o)
+rest_begins k seed None run none e = (NothingPending, (λ f is. cc), cc)
+rest_begins k seed (Some p) run none e = absurd (cc)

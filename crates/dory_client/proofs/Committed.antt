@@ -1,13 +1,15 @@
 -- What a told domain has after it confirmed an update.
-use Rattle.std.proofs.Common.{◌≡◌, ℕ, zero, suc, ◌+◌, ◌-◌, ◌≤◌, ◌<◌, Bool, true, false, cond, List, [], ◌∷◌, ◌++◌, length, Option, None, Some, Result, Ok, Err, refl, ap, sym, ◌∙◌, subst, inl, inr, arith}
+use Rattle.std.proofs.Common.{◌≡◌, ℕ, zero, suc, ◌+◌, ◌-◌, ◌≤◌, ◌<◌, Bool, true, false, cond, List, [], ◌∷◌, ◌++◌, length, get_or, Option, None, Some, Result, Ok, Err, refl, ap, sym, ◌∙◌, subst, inl, inr, arith}
 use Rattle.std.specs.Prelude.{slice_get, nat_lt}
+use Rattle.std.proofs.lemmas.List.{map-append}
+use Rattle.std.proofs.lemmas.Option.{slice_get-get_or}
 use Rattle.dory_base.specs.Log.{Log, same_id, number_of, staged_as, order_staged, order_known, order_as, look_order, follow_staged, follow_known, follow_again, follow_as, look_follow}
 use Rattle.dory_base.specs.declared.ids.AskId.{AskId}
 use Rattle.dory_base.specs.declared.ids.Side.{Side}
 use Rattle.dory_base.specs.declared.ids.Side.TheVariants as side
 use Rattle.dory_base.specs.declared.refusal.Refusal.TheVariants.{Gap, HistoryFull, NoMemory, Taken}
 use Rattle.dory_wire.specs.declared.message.Want.{Want}
-use Rattle.dory_wire.specs.declared.message.Want.TheVariants.{Latest, Search, Which, Stage, Order, Follow}
+use Rattle.dory_wire.specs.declared.message.Want.TheVariants.{Order, Follow}
 use Rattle.dory_wire.specs.declared.message.What.{What}
 use Rattle.dory_wire.specs.declared.message.What.TheVariants.{Committed, Refused}
 use Rattle.dory_wire.specs.declared.message.Request.{Request}
@@ -41,15 +43,11 @@ get_last : {A : Type 0} (xs : List A) (x : A) → slice_get (xs ++ x ∷ []) (le
 get_last [] x = refl
 get_last (y ∷ xs) x = get_last xs x
 
-ids_more : (xs ys : List Entry) → ids_of (xs ++ ys) ≡ ids_of xs ++ ids_of ys
-ids_more [] ys = refl
-ids_more (x ∷ xs) ys = ap (λ (v : List UpdateId). x.id ∷ v) (ids_more xs ys)
-
 -- an update stays at its number
 pub has_more : (a b : List Entry) (number : ℕ) (id : UpdateId) → IsPrefix a b → HasAt a number id → HasAt b number id
 has_more a b number id (more, is) h = record {
   counted = h.counted;
-  there = ap (λ (v : List UpdateId). slice_get v (number - 1)) (ap ids_of is ∙ ids_more a more) ∙ get_more (ids_of a) (ids_of more) (number - 1) id h.there;
+  there = ap (λ (v : List UpdateId). slice_get v (number - 1)) (ap ids_of is ∙ map-append (λ (e : Entry). e.id) a more) ∙ get_more (ids_of a) (ids_of more) (number - 1) id h.there;
 }
 
 -- the update that joins a history
@@ -116,10 +114,8 @@ known_follow : (o : Option ℕ) (log : Log) (number m : ℕ) (id : UpdateId) →
 known_follow (Some k) log number m id e = cc
 known_follow None log number m id e = not_new (nat_lt (length log.ids + 1) number) (Gap (length log.ids)) (staged_as log.staged id) number m id e
 
-get_there : {A : Type 0} (xs : List A) (i : ℕ) → i < length xs → slice_get xs i ≡ None → ⊥
-get_there [] i l e = absurd (omega (arith, l))
-get_there (x ∷ xs) zero l e = cc
-get_there (x ∷ xs) (suc i) l e = get_there xs i (omega (arith, l)) e
+get_there : (xs : List UpdateId) (i : ℕ) (d : UpdateId) → i < length xs → slice_get xs i ≡ None → ⊥
+get_there xs i d l e = let some : slice_get xs i ≡ Some (get_or xs i d) = slice_get-get_or xs i d l in cc
 
 follow_if : (b : Bool) (log : Log) (number m : ℕ) (id : UpdateId) → 1 ≤ number → nat_lt (length log.ids) number ≡ b
     → cond b (follow_known (number_of log.ids id) log number id) (follow_again (slice_get log.ids (number - 1)) number id) ≡ Ok (Again m) → (slice_get log.ids (number - 1) ≡ Some id) × (number ≡ m)
@@ -127,7 +123,7 @@ follow_if true log number m id some t e = absurd (known_follow (number_of log.id
 follow_if false log number m id some t e =
     let few : number ≤ length log.ids = ltb-false (length log.ids) number t in
     let within : number - 1 < length log.ids = omega (arith, few, some) in
-    follow_here (slice_get log.ids (number - 1)) number m id (get_there log.ids (number - 1) within) e
+    follow_here (slice_get log.ids (number - 1)) number m id (get_there log.ids (number - 1) id within) e
 
 pub follower : (role : Side) (log : Log) (number m : ℕ) (id : UpdateId) → 1 ≤ number → follow_as role log number id ≡ Ok (Again m) → (slice_get log.ids (number - 1) ≡ Some id) × (number ≡ m)
 follower side.Lead log number m id some e = absurd (cc)
@@ -151,30 +147,21 @@ follow_has s number id i n (Ok (Fresh m)) some e h =
 
 -- a request to commit
 abbrev pub Commits : Want → Type 0
-Commits Latest = ⊥
-Commits (Search number asked keys) = ⊥
-Commits (Which number) = ⊥
-Commits (Stage e) = ⊥
 Commits (Order id) = ⊤
 Commits (Follow number id) = 1 ≤ number
+Commits _ = ⊥
 
 steps_has : (s next : State) (want : Want) (n : ℕ) (i : UpdateId) → Commits want → Steps s want (Committed n i) next → HasAt next.history n i
-steps_has s next Latest n i is steps = absurd is
-steps_has s next (Search number asked keys) n i is steps = absurd is
-steps_has s next (Which number) n i is steps = absurd is
-steps_has s next (Stage e) n i is steps = absurd is
 steps_has s next (Order id) n i is (inl st) = subst (λ (t : State). HasAt t.history n i) (sym st.now) (order_has s id i n (look_order (log_of s) id) refl (sym st.answer))
 steps_has s next (Order id) n i is (inr out) = absurd (let e : Committed n i ≡ Refused NoMemory = out.answer in cc)
 steps_has s next (Follow number id) n i is (inl st) = subst (λ (t : State). HasAt t.history n i) (sym st.now) (follow_has s number id i n (look_follow (log_of s) number id) is refl (sym st.answer))
 steps_has s next (Follow number id) n i is (inr out) = absurd (let e : Committed n i ≡ Refused NoMemory = out.answer in cc)
+steps_has s next _ n i is steps = absurd is
 
 once : (x y : Told) (want : Want) (what : What) → Commits want → IsReplyTo x y want what → StepsOnce x y want what
-once x y Latest what is by = absurd is
-once x y (Search number asked keys) what is by = absurd is
-once x y (Which number) what is by = absurd is
-once x y (Stage e) what is by = absurd is
 once x y (Order id) what is by = by
 once x y (Follow number id) what is by = by
+once x y _ what is by = absurd is
 
 folder_has : (before now : Option Told) (want : Want) (what : What) (n : ℕ) (i : UpdateId) → Commits want → what ≡ Committed n i → IsFolderReply before now want what → (t : Told) × (now ≡ Some t) × HasAt t.history n i
 folder_has None now want what n i is e by = absurd (cc)

@@ -1,6 +1,6 @@
--- What comes from a told domain confirms what was asked, or is a refusal.
-use Rattle.std.proofs.Common.{◌≡◌, ℕ, ◌≤◌, Bool, true, cond, List, Some, Result, Ok, Err, refl, ap, sym, ◌∙◌, subst, inl, inr}
-use Rattle.std.specs.Prelude.{⊤, ◌==◌, ◌&&◌}
+-- What comes from a told domain confirms what was asked, or is a refusal; and so an update ends done, or by a refusal.
+use Rattle.std.proofs.Common.{◌≡◌, ℕ, ◌≤◌, Bool, true, cond, List, Some, Result, Ok, Err, refl, ap, sym, ◌∙◌, subst, inl, inr, ◌+◌, false, [], ◌∷◌, None}
+use Rattle.std.specs.Prelude.{⊤, ◌==◌, ◌&&◌, not, nat_lt}
 use Rattle.std.proofs.lemmas.Bool.{eq-eqb}
 use Rattle.dory_base.specs.declared.ids.AskId.{AskId}
 use Rattle.dory_base.specs.declared.ids.Side.{Side}
@@ -35,13 +35,27 @@ use Rattle.dory_member.specs.declared.phase.Single.TheVariants as single
 use Rattle.dory_member.specs.declared.phase.UpdateStep.{UpdateStep}
 use Rattle.dory_member.specs.declared.phase.UpdateStep.TheVariants.{StageFollow, StageLead, OrderLead, FollowOn, WhichOther, FollowOther}
 use Rattle.dory_member.specs.declared.phase.Run.{Run}
-use Rattle.dory_member.specs.Course.{name, ask_request, single_of, to, want_of}
+use Rattle.dory_member.specs.Course.{name, ask_request, single_of, to, want_of, after_fault, after_mark, after_refused, after_update, asks, ended_of, outcome_at, phase_after, run_after, side_of, took, updated}
 use Rattle.dory_member.specs.Single.{allowed, checked, confirmed, mark, refused, said, wanted}
 use Rattle.dory_base.specs.declared.entry.Entry.{Entry}
-use Rattle.dory_client.specs.Complete.{TellsFolder}
+use Rattle.dory_client.specs.Complete.{BothTell, TellsFolder}
 use Rattle.dory_drive.specs.Way.{ExchangedOver, Links}
 use Rattle.dory_client.proofs.Committed.{follower}
 use Rattle.dory_client.proofs.Replied.{IsReplied, grown_told, replied_by}
+use Rattle.dory_base.specs.declared.entry.Change.{Change}
+use Rattle.dory_base.specs.declared.entry.Change.TheVariants as change
+use Rattle.dory_base.specs.declared.ids.DocId.{DocId}
+use Rattle.dory_base.specs.declared.ids.FolderId.{FolderId}
+use Rattle.dory_base.specs.declared.refusal.Refusal.TheVariants as refusal
+use Rattle.dory_verify.specs.declared.fault.CheckFault.TheVariants as check
+use Rattle.dory_member.specs.declared.outcome.Outcome.{Outcome}
+use Rattle.dory_member.specs.declared.outcome.Outcome.TheVariants.{Failed}
+use Rattle.dory_member.specs.declared.phase.Phase.{Phase}
+use Rattle.dory_member.specs.declared.phase.Phase.TheVariants.{Updating, Ended}
+use Rattle.dory_client.specs.Ends.{fault_end}
+use Rattle.dory_client.specs.CallEnds.{IsRefused, UpdateEnds}
+use Rattle.dory_client.specs.Way.{RunExchanged, ExchangedInTurn}
+use Rattle.dory_client.proofs.Updates.{Leads, kept_folder, leads}
 
 -- ---- a reply whose kind is allowed is heard as what it says
 
@@ -88,12 +102,8 @@ tells_which s number (Err code) = Refuses code refl
 
 -- a number that is followed counts from 1
 abbrev pub IsCounted : Want → Type 0
-IsCounted want.Latest = ⊤
-IsCounted (want.Search number asked keys) = ⊤
-IsCounted (want.Which number) = ⊤
-IsCounted (want.Stage e) = ⊤
-IsCounted (want.Order id) = ⊤
 IsCounted (want.Follow number id) = 1 ≤ number
+IsCounted _ = ⊤
 
 says_as : (s : Side) (ask : Single) (what answer : What) → what ≡ answer → Stated s ask answer → Stated s ask what
 says_as s ask what answer e says = subst (Stated s ask) (sym e) says
@@ -112,15 +122,8 @@ steps_say s e (FollowOther number at id) st next what counted (inl step) =
 
 -- ---- over links that tell a folder
 
--- both links tell a folder under this number
-pub record Tells (folder : ℕ) (m : Links) : Type 0 where
-  pub lead : Told
-  pub follow : Told
-  pub by_lead : TellsFolder m.lead.folders folder lead
-  pub by_follow : TellsFolder m.follow.folders folder follow
-
 -- they go on to tell it
-pub still : (s : Side) (folder : ℕ) (m z : Links) (r : Request) (frame : List ℕ) → Tells folder m → ExchangedOver s m z r frame → Tells folder z
+pub still : (s : Side) (folder : ℕ) (m z : Links) (r : Request) (frame : List ℕ) → BothTell folder m → ExchangedOver s m z r frame → BothTell folder z
 still side.Lead folder m z r frame t (ask, same) =
     let x = grown_told m.lead.folders z.lead.folders folder t.lead t.by_lead ask.grown in
     record { lead = x.0; follow = t.follow; by_lead = x.1; by_follow = subst (λ (h : Heard). TellsFolder h.folders folder t.follow) (sym same) t.by_follow }
@@ -136,14 +139,10 @@ pub record Replied (r : Request) (frame : List ℕ) : Type 0 where
   pub counted : IsCounted r.want
 
 counted_of : (w : Want) → IsWant w → IsCounted w
-counted_of want.Latest is = tt
-counted_of (want.Search number asked keys) is = tt
-counted_of (want.Which number) is = tt
-counted_of (want.Stage e) is = tt
-counted_of (want.Order id) is = tt
 counted_of (want.Follow number id) is = is.0.some
+counted_of _ is = tt
 
-over_told : (s : Side) (m z : Links) (r : Request) (frame : List ℕ) → Tells r.folder.0 m → ExchangedOver s m z r frame → Replied r frame
+over_told : (s : Side) (m z : Links) (r : Request) (frame : List ℕ) → BothTell r.folder.0 m → ExchangedOver s m z r frame → Replied r frame
 over_told side.Lead m z r frame t (ask, same) =
     let x = grown_told m.lead.folders z.lead.folders r.folder.0 t.lead t.by_lead ask.grown in
     record {
@@ -164,11 +163,7 @@ over_told side.Follow m z r frame t (same, ask) =
 -- what came to a step of an update
 says_at : (s : Side) (e : Entry) (at : UpdateStep) (x y : Told) (what : What) → IsCounted (want_of e (single_of e.id at)) → IsReplyTo x y (want_of e (single_of e.id at)) what → Stated s (single_of e.id at) what
 says_at s e StageFollow x y what counted (st, next, is) = steps_say s e StageFollow st next what counted is.steps
-says_at s e StageLead x y what counted (st, next, is) = steps_say s e StageLead st next what counted is.steps
-says_at s e OrderLead x y what counted (st, next, is) = steps_say s e OrderLead st next what counted is.steps
-says_at s e (FollowOn number repaired) x y what counted (st, next, is) = steps_say s e (FollowOn number repaired) st next what counted is.steps
-says_at s e (WhichOther number at) x y what counted (st, next, is) = steps_say s e (WhichOther number at) st next what counted is.steps
-says_at s e (FollowOther number at id) x y what counted (st, next, is) = steps_say s e (FollowOther number at id) st next what counted is.steps
+says_at s e at x y what counted (st, next, is) = steps_say s e at st next what counted is.steps
 
 -- ---- what a step of an update comes to
 
@@ -179,25 +174,94 @@ pub data CameAs (s : Side) (ask : Single) (r : Result Mark Fault) : Type 0 where
 
 allowed_refusal : (ask : Single) (code : Refusal) → is_allowed (allowed ask) (Refused code) ≡ true
 allowed_refusal (single.Which number) code = refl
-allowed_refusal (single.Stage id) code = refl
-allowed_refusal (single.Order id) code = refl
-allowed_refusal (single.Follow number id) code = refl
-
-said_refusal : (s : Side) (ask : Single) (code : Refusal) → said s ask (Refused code) ≡ Err (refused s ask code)
-said_refusal s (single.Which number) code = refl
-said_refusal s (single.Stage id) code = refl
-said_refusal s (single.Order id) code = refl
-said_refusal s (single.Follow number id) code = refl
+allowed_refusal _ code = refl
 
 heard_by : (s : Side) (ask : Single) (asked : AskId) (frame : List ℕ) (what : What) → reply_in frame ≡ Some (record { ask = asked; what = what }) → Stated s ask what → CameAs s ask (confirmed s ask asked frame)
 heard_by s ask asked frame what replied (Confirms m kind says) = ToMark m (heard_as s ask asked frame what replied kind ∙ says)
 heard_by s ask asked frame what replied (Refuses code is) =
     let came : reply_in frame ≡ Some (record { ask = asked; what = Refused code }) = replied ∙ ap (λ (w : What). Some (record { ask = asked; what = w })) is in
-    ToRefusal code (heard_as s ask asked frame (Refused code) came (allowed_refusal ask code) ∙ said_refusal s ask code)
+    ToRefusal code (heard_as s ask asked frame (Refused code) came (allowed_refusal ask code))
 
 -- what a told domain's reply to a step of an update comes to
-pub confirms : (s : Side) (run : Run) (e : Entry) (at : UpdateStep) (m z : Links) (frame : List ℕ) → Tells run.kept.folder.0 m → ExchangedOver s m z (ask_request run (to s (want_of e (single_of e.id at)))) frame
+pub confirms : (s : Side) (run : Run) (e : Entry) (at : UpdateStep) (m z : Links) (frame : List ℕ) → BothTell run.kept.folder.0 m → ExchangedOver s m z (ask_request run (to s (want_of e (single_of e.id at)))) frame
     → CameAs s (single_of e.id at) (confirmed s (single_of e.id at) (name run run.step) frame)
 confirms s run e at m z frame t over =
     let r = over_told s m z (ask_request run (to s (want_of e (single_of e.id at)))) frame t over in
     heard_by s (single_of e.id at) (name run run.step) frame r.reply.what r.reply.replied (says_at s e at r.before r.now r.reply.what r.counted r.reply.answers)
+
+-- an outcome that is no failure, or fails by a domain's refusal
+abbrev pub IsFine : Outcome → Type 0
+IsFine o = (f : Fault) → o ≡ Failed f → UpdateEnds (fault_end f)
+
+fails_fine : (f : Fault) → UpdateEnds (fault_end f) → IsFine (Failed f)
+fails_fine f fine g same = let one : f ≡ g = cc in subst (λ (x : Fault). UpdateEnds (fault_end x)) one fine
+
+-- ---- an update, from its beginning to its end
+
+-- a phase of an update that ends fine, where it ends
+abbrev GoesWell : Entry → Phase → Type 0
+GoesWell e (Updating e' at) = e' ≡ e
+GoesWell e (Ended outcome) = IsFine outcome
+GoesWell e _ = ⊥
+
+taken_fine : (b : Bool) (s : Side) (n number : ℕ) (i id : UpdateId) → UpdateEnds (fault_end (cond b (fault.Diverged n i id) (fault.Check (check.Refused s (refusal.Taken number id)))))
+taken_fine true s n number i id = inr (n, i, id, refl)
+taken_fine false s n number i id = inl (IsRefused s (refusal.Taken number id) refl)
+
+follow_fine : (s : Side) (n : ℕ) (i : UpdateId) (code : Refusal) → UpdateEnds (fault_end (refused s (single.Follow n i) code))
+follow_fine s n i (refusal.Taken number id) = taken_fine ((n == number) && not (same_id i id)) s n number i id
+follow_fine s n i code = inl (IsRefused s code refl)
+
+-- a refusal's fault is a refusal
+refused_fine : (s : Side) (ask : Single) (code : Refusal) → UpdateEnds (fault_end (refused s ask code))
+refused_fine s (single.Follow n i) code = follow_fine s n i code
+refused_fine s _ code = inl (IsRefused s code refl)
+
+first_fine : (e : Entry) (number : ℕ) (f : Fault) → UpdateEnds (fault_end f) → GoesWell e (after_refused e number f)
+first_fine e number f fine = by (leads e number f)
+  where
+    by : Leads e number f → GoesWell e (after_refused e number f)
+    by (inl (at, is)) = subst (GoesWell e) (sym is) refl
+    by (inr is) = subst (GoesWell e) (sym is) (fails_fine f fine)
+
+fault_fine : (e : Entry) (at : UpdateStep) (f : Fault) → UpdateEnds (fault_end f) → GoesWell e (after_fault e at f)
+fault_fine e (FollowOn number false) f fine = first_fine e number f fine
+fault_fine e _ f fine = fails_fine f fine
+
+updated_fine : (c : Change) (doc : DocId) (number : ℕ) → IsFine (updated c doc number)
+updated_fine change.Remove doc number f is = absurd (cc)
+updated_fine _ doc number f is = absurd (cc)
+
+repaired_fine : (b : Bool) (e : Entry) (number at : ℕ) → GoesWell e (cond b (Updating e (WhichOther number (at + 1))) (Updating e (FollowOn number true)))
+repaired_fine true e number at = refl
+repaired_fine false e number at = refl
+
+mark_fine : (e : Entry) (at : UpdateStep) (m : Mark) → GoesWell e (after_mark e at m)
+mark_fine e (FollowOn number repaired) m = updated_fine e.change e.doc number
+mark_fine e (FollowOther number at id) m = repaired_fine (nat_lt (at + 1) number) e number at
+mark_fine e _ m = refl
+
+after_fine : (e : Entry) (at : UpdateStep) (s : Side) (r : Result Mark Fault) → CameAs s (single_of e.id at) r → GoesWell e (after_update e at r)
+after_fine e at s r (ToMark m is) = subst (λ (x : Result Mark Fault). GoesWell e (after_update e at x)) (sym is) (mark_fine e at m)
+after_fine e at s r (ToRefusal code is) =
+    subst (λ (x : Result Mark Fault). GoesWell e (after_update e at x)) (sym is) (fault_fine e at (refused s (single_of e.id at) code) (refused_fine s (single_of e.id at) code))
+
+-- from a phase of an update to its end
+from_phase : (run : Run) (p : Phase) (frames : List (List ℕ)) (m z : Links) (e : Entry) (o : Outcome) → run.phase ≡ p → BothTell run.kept.folder.0 m → GoesWell e p → ExchangedInTurn run frames m z → outcome_at (run_after run frames).phase ≡ Some o → IsFine o
+from_phase run (Updating e' at) [] m z e o is told well went ends = absurd (let none : outcome_at run.phase ≡ None = ap outcome_at is in cc)
+from_phase run (Updating e' at) (f ∷ frames) m z e o is told same (n, turned, more) ends =
+    let over : ExchangedOver (side_of at) m n (ask_request run (to (side_of at) (want_of e' (single_of e'.id at)))) f = subst (λ (p : Phase). RunExchanged run (asks p) m n f) is turned in
+    let now : BothTell run.kept.folder.0 n = still (side_of at) run.kept.folder.0 m n (ask_request run (to (side_of at) (want_of e' (single_of e'.id at)))) f told over in
+    let next : GoesWell e' (phase_after run (Updating e' at) f) = after_fine e' at (side_of at) _ (confirms (side_of at) run e' at m n f told over) in
+    let next' : GoesWell e (phase_after run run.phase f) = subst (λ (x : Entry). GoesWell x (phase_after run run.phase f)) same (subst (λ (p : Phase). GoesWell e' (phase_after run p f)) (sym is) next) in
+    let folder : (took run f).kept.folder ≡ run.kept.folder = kept_folder run.kept (phase_after run run.phase f) in
+    from_phase (took run f) (took run f).phase frames n z e o refl (subst (λ (x : FolderId). BothTell x.0 n) (sym folder) now) next' more ends
+from_phase run (Ended x) [] m z e o is told well went ends =
+    let same : x ≡ o = let now : outcome_at run.phase ≡ Some x = ap outcome_at is in cc in
+    subst IsFine same well
+from_phase run (Ended x) (f ∷ frames) m z e o is told well (n, turned, more) ends = absurd (subst (λ (p : Phase). RunExchanged run (asks p) m n f) is turned)
+from_phase run _ frames m z e o is told well went ends = absurd well
+
+-- an update over two links that tell its folder ends fine
+pub update_fine : (run : Run) (e : Entry) (frames : List (List ℕ)) (a z : Links) (o : Outcome) → run.phase ≡ Updating e StageFollow → BothTell run.kept.folder.0 a → ExchangedInTurn run frames a z → ended_of run frames ≡ Some o → IsFine o
+update_fine run e frames a z o is told went ends = from_phase run (Updating e StageFollow) frames a z e o is told refl went ends

@@ -9,15 +9,13 @@ pub mod Searches
 pub mod Right
 pub mod Committed
 pub mod Updates
-pub mod Done
 pub mod Beginnings
+pub mod Acting
+pub mod CameTo
 pub mod EffectLaws
 pub mod Replied
 pub mod Complete
-pub mod Acting
-pub mod SearchEnds
 pub mod Confirming
-pub mod Finishes
 pub mod Endings
 pub mod KeptLaws
 pub mod PrintLaws

@@ -5,7 +5,7 @@ use Rattle.std.proofs.lemmas.List.{take-append-le}
 use Rattle.dory_base.specs.declared.entry.Entry.{Entry}
 use Rattle.dory_base.specs.History.{IsPrefix, version_of}
 use Rattle.dory_wire.specs.declared.message.Want.{Want}
-use Rattle.dory_wire.specs.declared.message.Want.TheVariants.{Latest, Search, Which, Stage, Order, Follow}
+use Rattle.dory_wire.specs.declared.message.Want.TheVariants.{Latest, Search}
 use Rattle.dory_wire.specs.declared.message.What.{What}
 use Rattle.dory_wire.specs.declared.message.Request.{Request}
 use Rattle.dory_wire.specs.Reading.{reply_in}
@@ -48,18 +48,12 @@ grown_told (Some before) (Some now) number x told g = grown_folder (before numbe
 abbrev pub IsReading : Want → Type 0
 IsReading Latest = ⊤
 IsReading (Search number asked keys) = ⊤
-IsReading (Which number) = ⊥
-IsReading (Stage e) = ⊥
-IsReading (Order id) = ⊥
-IsReading (Follow number id) = ⊥
+IsReading _ = ⊥
 
 read_at : (x y : Told) (want : Want) (what : What) → IsReading want → IsReplyTo x y want what → (h : List Entry) × IsReadAt x y want what h
 read_at x y Latest what reads a = a
 read_at x y (Search number asked keys) what reads a = a
-read_at x y (Which number) what reads a = absurd reads
-read_at x y (Stage e) what reads a = absurd reads
-read_at x y (Order id) what reads a = absurd reads
-read_at x y (Follow number id) what reads a = absurd reads
+read_at x y _ what reads a = absurd reads
 
 by_folder : (before now : Option Told) (x y : Told) (request : Request) (what : What) (frame : List ℕ) → before ≡ Some x → now ≡ Some y → reply_in frame ≡ Some (record { ask = request.ask; what = what }) → IsFolderReply before now request.want what → IsReplied x y request frame
 by_folder before now x y request what frame e i replied answer = record {

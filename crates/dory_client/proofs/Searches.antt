@@ -12,7 +12,7 @@ use Rattle.dory_verify.specs.Listing.{Lists}
 use Rattle.dory_wire.specs.declared.message.Want.TheVariants.{Latest}
 use Rattle.dory_state.specs.declared.kept.KeptState.{KeptState}
 use Rattle.dory_member.specs.declared.outcome.Outcome.{Outcome}
-use Rattle.dory_member.specs.declared.outcome.Outcome.TheVariants.{Posted, Removed, Accepted, NothingPending, Lengths as LengthsAre, Rotated, Failed as Fails}
+use Rattle.dory_member.specs.declared.outcome.Outcome.TheVariants.{Accepted, Failed as Fails}
 use Rattle.dory_member.specs.declared.outcome.Fault.TheVariants as fault
 use Rattle.dory_member.specs.declared.phase.Phase.TheVariants.{Measuring}
 use Rattle.dory_member.specs.declared.phase.Run.{Run}
@@ -34,17 +34,7 @@ start k seed used word = asking k seed used (Measuring (Some word) None)
 abbrev pub CourseOf : KeptState → List ℕ → List ℕ → Links → Links → Outcome → Type 0
 CourseOf k seed word a z (Accepted answer) = Answered a.lead z.lead a.follow z.follow k (sought_of k seed word) answer
 CourseOf k seed word a z (Fails (fault.Check f)) = Failed a.lead z.lead a.follow z.follow k (sought_of k seed word) f
-CourseOf k seed word a z (Fails (fault.Unconfirmed side want got)) = ⊥
-CourseOf k seed word a z (Fails (fault.Diverged number lead_id follow_id)) = ⊥
-CourseOf k seed word a z (Fails (fault.Unfinished id)) = ⊥
-CourseOf k seed word a z (Fails fault.SerialEnd) = ⊥
-CourseOf k seed word a z (Fails fault.EpochEnd) = ⊥
-CourseOf k seed word a z (Fails fault.NoMemory) = ⊥
-CourseOf k seed word a z (Posted doc number) = ⊥
-CourseOf k seed word a z (Removed doc number) = ⊥
-CourseOf k seed word a z NothingPending = ⊥
-CourseOf k seed word a z (LengthsAre lead follow seen) = ⊥
-CourseOf k seed word a z (Rotated epoch) = ⊥
+CourseOf k seed word a z _ = ⊥
 
 -- ---- the parts of a search's course
 

@@ -1,13 +1,9 @@
 -- An update that is done stands at one number in both histories.
-use Rattle.std.proofs.Common.{◌≡◌, ℕ, ◌+◌, Bool, true, false, cond, List, [], ◌∷◌, ◌++◌, append_assoc, Option, None, Some, Result, Ok, Err, refl, ap, sym, ◌∙◌, subst, inl, inr}
+use Rattle.std.proofs.Common.{◌≡◌, ℕ, ◌+◌, Bool, true, false, cond, List, [], ◌∷◌, Option, None, Some, Result, Ok, Err, refl, ap, sym, subst, inl, inr}
 use Rattle.std.specs.Prelude.{◌⊎◌, ⊤, ◌==◌, ◌&&◌, nat_lt}
 use Rattle.std.proofs.lemmas.Bool.{eqb-true, and_parts}
-use Rattle.std.proofs.lemmas.List.{append-nil}
 use Rattle.dory_base.specs.declared.entry.Entry.{Entry}
-use Rattle.dory_base.specs.declared.entry.Change.{Change}
-use Rattle.dory_base.specs.declared.entry.Change.TheVariants as change
 use Rattle.dory_base.specs.declared.ids.FolderId.{FolderId}
-use Rattle.dory_base.specs.declared.refusal.Refusal.{Refusal}
 use Rattle.dory_base.specs.declared.refusal.Refusal.TheVariants as refusal
 use Rattle.dory_base.proofs.SameLaws.{same_id-true}
 use Rattle.dory_base.specs.declared.ids.Side.{Side}
@@ -19,7 +15,6 @@ use Rattle.dory_wire.specs.declared.message.What.{What}
 use Rattle.dory_wire.specs.declared.message.What.TheVariants as what
 use Rattle.dory_wire.specs.declared.message.What.TheVariants.{Committed}
 use Rattle.dory_link.specs.Told.{Heard, Told, Grown, Grows}
-use Rattle.dory_verify.specs.declared.fault.CheckFault.{CheckFault}
 use Rattle.dory_verify.specs.declared.fault.CheckFault.TheVariants as check
 use Rattle.dory_base.specs.Log.{same_id}
 use Rattle.dory_state.specs.declared.kept.KeptState.{KeptState}
@@ -27,19 +22,20 @@ use Rattle.dory_member.specs.declared.outcome.Fault.{Fault}
 use Rattle.dory_member.specs.declared.outcome.Fault.TheVariants as fault
 use Rattle.dory_member.specs.declared.outcome.Mark.{Mark}
 use Rattle.dory_member.specs.declared.outcome.Outcome.{Outcome}
-use Rattle.dory_member.specs.declared.outcome.Outcome.TheVariants.{Posted, Removed, Accepted, NothingPending, Lengths, Rotated, Failed}
+use Rattle.dory_member.specs.declared.outcome.Outcome.TheVariants.{Failed}
 use Rattle.dory_member.specs.declared.phase.Phase.{Phase}
-use Rattle.dory_member.specs.declared.phase.Phase.TheVariants.{Updating, Measuring, Searching, Ended}
+use Rattle.dory_member.specs.declared.phase.Phase.TheVariants.{Updating, Ended}
 use Rattle.dory_member.specs.declared.phase.Run.{Run}
 use Rattle.dory_member.specs.declared.phase.Single.TheVariants as single
 use Rattle.dory_member.specs.declared.phase.UpdateStep.{UpdateStep}
 use Rattle.dory_member.specs.declared.phase.UpdateStep.TheVariants.{StageFollow, StageLead, OrderLead, FollowOn, WhichOther, FollowOther}
-use Rattle.dory_member.specs.Course.{Ask, after_fault, after_mark, after_refused, after_update, asks, ended_of, fails, finished, kept_at, name, outcome_at, phase_after, ask_request, run_after, side_of, single_of, to, took, updated, want_of}
+use Rattle.dory_member.specs.Course.{after_fault, after_mark, after_refused, after_update, asks, ended_of, fails, finished, kept_at, name, outcome_at, phase_after, ask_request, run_after, side_of, single_of, to, took, updated, want_of}
 use Rattle.dory_member.specs.Single.{confirmed, mark, said}
 use Rattle.dory_member.proofs.ConfirmationLaws.{heard}
 use Rattle.dory_client.specs.CallEffects.{HasAt, ToldAt}
 use Rattle.dory_client.specs.Way.{RunExchanged, ExchangedInTurn}
 use Rattle.dory_drive.specs.Way.{Links, ExchangedOver}
+use Rattle.dory_drive.proofs.Growth.{grows_same, grows_twice, over_grew}
 use Rattle.dory_client.proofs.Committed.{told_has, has_more}
 
 -- the links told from the beginning a of a command to now z, the lead has the update of this id at this number
@@ -51,63 +47,30 @@ FollowHas folder a z number id = ToldAt a.follow.folders z.follow.folders folder
 
 -- what is true of an update between its steps: from the lead's number on, the lead has it there
 abbrev pub AtStep : ℕ → Links → Links → UpdateId → UpdateStep → Type 0
-AtStep folder a z id StageFollow = ⊤
-AtStep folder a z id StageLead = ⊤
-AtStep folder a z id OrderLead = ⊤
 AtStep folder a z id (FollowOn number repaired) = LeadHas folder a z number id
 AtStep folder a z id (WhichOther number at) = LeadHas folder a z number id
 AtStep folder a z id (FollowOther number at other) = LeadHas folder a z number id
+AtStep folder a z id _ = ⊤
 
--- what an outcome of the update of this entry says
-abbrev pub AtEnd : ℕ → Links → Links → Entry → Outcome → Type 0
-AtEnd folder a z e (Posted doc number) = (Posted doc number ≡ updated e.change e.doc number) × LeadHas folder a z number e.id × FollowHas folder a z number e.id
-AtEnd folder a z e (Removed doc number) = (Removed doc number ≡ updated e.change e.doc number) × LeadHas folder a z number e.id × FollowHas folder a z number e.id
-AtEnd folder a z e (Accepted answer) = ⊥
-AtEnd folder a z e NothingPending = ⊥
-AtEnd folder a z e (Lengths lead follow seen) = ⊥
-AtEnd folder a z e (Rotated epoch) = ⊥
-AtEnd folder a z e (Failed f) = ⊤
+-- what an outcome of the update of this entry says: it stands at a number in both histories, or it failed
+pub data AtEnd (folder : ℕ) (a z : Links) (e : Entry) (o : Outcome) : Type 0 where
+  Stands : (number : ℕ) → o ≡ updated e.change e.doc number → LeadHas folder a z number e.id → FollowHas folder a z number e.id → AtEnd folder a z e o
+  Falls : (f : Fault) → o ≡ Failed f → AtEnd folder a z e o
 
 -- what is true at a phase of an update of this entry
 abbrev pub At : ℕ → Links → Links → Entry → Phase → Type 0
 At folder a z e (Updating e' at) = (e' ≡ e) × AtStep folder a z e.id at
-At folder a z e (Measuring word lead) = ⊥
-At folder a z e (Searching q lead) = ⊥
 At folder a z e (Ended outcome) = AtEnd folder a z e outcome
+At folder a z e _ = ⊥
 
 -- ---- histories that grow
-
-grown_same : (t : Option Told) → Grown t t
-grown_same None = tt
-grown_same (Some t) = record { shape = refl; retained = refl; history = ([], sym (append-nil t.history)) }
-
-pub grows_same : (f : Option (ℕ → Option Told)) → Grows f f
-grows_same None = tt
-grows_same (Some f) = λ folder. grown_same (f folder)
-
-grown_twice : (a b c : Option Told) → Grown a b → Grown b c → Grown a c
-grown_twice None None c p q = q
-grown_twice None (Some b) c p q = absurd p
-grown_twice (Some a) None c p q = absurd p
-grown_twice (Some a) (Some b) None p q = absurd q
-grown_twice (Some a) (Some b) (Some c) p q = record {
-  shape = q.shape ∙ p.shape;
-  retained = q.retained ∙ p.retained;
-  history = (p.history.0 ++ q.history.0, q.history.1 ∙ ap (λ (v : List Entry). v ++ q.history.0) p.history.1 ∙ append_assoc a.history p.history.0 q.history.0);
-}
-
-pub grows_twice : (a b c : Option (ℕ → Option Told)) → Grows a b → Grows b c → Grows a c
-grows_twice None b c p q = tt
-grows_twice (Some a) None c p q = absurd p
-grows_twice (Some a) (Some b) None p q = absurd q
-grows_twice (Some a) (Some b) (Some c) p q = λ folder. grown_twice (a folder) (b folder) (c folder) (p folder) (q folder)
 
 -- both links' folders are told on, grown
 pub record Grow (a z : Links) : Type 0 where
   pub lead : Grows a.lead.folders z.lead.folders
   pub follow : Grows a.follow.folders z.follow.folders
 
-pub grow_same : (a : Links) → Grow a a
+grow_same : (a : Links) → Grow a a
 grow_same a = record { lead = grows_same a.lead.folders; follow = grows_same a.follow.folders }
 
 pub grow_twice : (a b c : Links) → Grow a b → Grow b c → Grow a c
@@ -116,13 +79,11 @@ grow_twice a b c p q = record {
   follow = grows_twice a.follow.folders b.follow.folders c.follow.folders p.follow q.follow;
 }
 
-over_grows : (s : Side) (m z : Links) (r : Request) (frame : List ℕ) → ExchangedOver s m z r frame → Grow m z
-over_grows side.Lead m z r frame (ask, same) = record { lead = ask.grown; follow = subst (λ (h : Heard). Grows m.follow.folders h.folders) (sym same) (grows_same m.follow.folders) }
-over_grows side.Follow m z r frame (same, ask) = record { lead = subst (λ (h : Heard). Grows m.lead.folders h.folders) (sym same) (grows_same m.lead.folders); follow = ask.grown }
+pub heard_same : (x y : Heard) → y ≡ x → Grows x.folders y.folders
+heard_same x y same = subst (λ (h : Heard). Grows x.folders h.folders) (sym same) (grows_same x.folders)
 
-pub turned_grows : (run : Run) (o : Option Ask) (m z : Links) (frame : List ℕ) → RunExchanged run o m z frame → Grow m z
-turned_grows run None m z frame t = absurd t
-turned_grows run (Some ask) m z frame t = over_grows ask.side m z (ask_request run ask) frame t
+over_grows : (s : Side) (m z : Links) (r : Request) (frame : List ℕ) → ExchangedOver s m z r frame → Grow m z
+over_grows s m z r frame over = record { lead = (over_grew side.Lead s m z r frame over).grown; follow = (over_grew side.Follow s m z r frame over).grown }
 
 -- ---- what a told domain has, from an earlier beginning and to a later end
 
@@ -155,29 +116,21 @@ confirmed_if true s w g m e = (refl, cc)
 confirmed_if false s w g m e = absurd (cc)
 
 order_says : (s : Side) (i : UpdateId) (w : What) (m : Mark) → said s (single.Order i) w ≡ Ok m → w ≡ Committed m.number i
-order_says s i (what.At length) m e = absurd (cc)
-order_says s i (what.Found f) m e = absurd (cc)
-order_says s i (what.Id number id) m e = absurd (cc)
-order_says s i (what.Staged id) m e = absurd (cc)
-order_says s i (what.Refused code) m e = absurd (cc)
 order_says s i (what.Committed number id) m e =
     let p = confirmed_if ((number == number) && same_id i id) s (mark number i) (mark number id) m e in
     let same : i ≡ id = same_id-true i id (and_parts (number == number) (same_id i id) p.0).1 in
     let n : number ≡ m.number = ap (λ (x : Mark). x.number) p.1 in
     λ j. Committed (n j) (sym same j)
+order_says s i _ m e = absurd (cc)
 
 follow_says : (s : Side) (n : ℕ) (i : UpdateId) (w : What) (m : Mark) → said s (single.Follow n i) w ≡ Ok m → w ≡ Committed n i
-follow_says s n i (what.At length) m e = absurd (cc)
-follow_says s n i (what.Found f) m e = absurd (cc)
-follow_says s n i (what.Id number id) m e = absurd (cc)
-follow_says s n i (what.Staged id) m e = absurd (cc)
-follow_says s n i (what.Refused code) m e = absurd (cc)
 follow_says s n i (what.Committed number id) m e =
     let p = confirmed_if ((n == number) && same_id i id) s (mark n i) (mark number id) m e in
     let both = and_parts (n == number) (same_id i id) p.0 in
     let same : i ≡ id = same_id-true i id both.1 in
     let k : n ≡ number = eqb-true n number both.0 in
     λ j. Committed (sym k j) (sym same j)
+follow_says s n i _ m e = absurd (cc)
 
 -- ---- where a fault of a first Follow leads
 
@@ -188,76 +141,33 @@ gap_leads : (b : Bool) (e : Entry) (number at : ℕ) (f : Fault) → ((k : ℕ) 
 gap_leads true e number at f = inl (at, refl)
 gap_leads false e number at f = inr refl
 
-code_leads : (e : Entry) (number : ℕ) (s : Side) (code : Refusal) → Leads e number (fault.Check (check.Refused s code))
-code_leads e number side.Lead code = inr refl
-code_leads e number side.Follow (refusal.Gap l) = gap_leads (nat_lt (l + 1) number) e number (l + 1) (fault.Check (check.Refused side.Follow (refusal.Gap l)))
-code_leads e number side.Follow refusal.NoFolder = inr refl
-code_leads e number side.Follow (refusal.ShapeWrong depth probes) = inr refl
-code_leads e number side.Follow (refusal.Unretained oldest newest) = inr refl
-code_leads e number side.Follow (refusal.BadMember member) = inr refl
-code_leads e number side.Follow (refusal.Past last) = inr refl
-code_leads e number side.Follow (refusal.Clash id) = inr refl
-code_leads e number side.Follow (refusal.Unfinished id) = inr refl
-code_leads e number side.Follow (refusal.Unstaged id) = inr refl
-code_leads e number side.Follow (refusal.Taken n id) = inr refl
-code_leads e number side.Follow (refusal.WrongRole role) = inr refl
-code_leads e number side.Follow refusal.HistoryFull = inr refl
-code_leads e number side.Follow (refusal.NoEntry length) = inr refl
-code_leads e number side.Follow refusal.NoMemory = inr refl
-
-check_leads : (e : Entry) (number : ℕ) (c : CheckFault) → Leads e number (fault.Check c)
-check_leads e number (check.Form s at) = inr refl
-check_leads e number (check.Echo s asked got) = inr refl
-check_leads e number (check.Refused s code) = code_leads e number s code
-check_leads e number (check.Version s asked got) = inr refl
-check_leads e number (check.Stale s latest seen) = inr refl
-check_leads e number (check.Manifest place) = inr refl
-check_leads e number (check.Count s got want) = inr refl
-check_leads e number (check.TagSum probe got want) = inr refl
-
 -- a first Follow's fault leads to the repair, or is the command's
 pub leads : (e : Entry) (number : ℕ) (f : Fault) → Leads e number f
-leads e number (fault.Check c) = check_leads e number c
-leads e number (fault.Unconfirmed s want got) = inr refl
-leads e number (fault.Diverged n lead_id follow_id) = inr refl
-leads e number (fault.Unfinished id) = inr refl
-leads e number fault.SerialEnd = inr refl
-leads e number fault.EpochEnd = inr refl
-leads e number fault.NoMemory = inr refl
+leads e number (fault.Check (check.Refused side.Follow (refusal.Gap l))) = gap_leads (nat_lt (l + 1) number) e number (l + 1) (fault.Check (check.Refused side.Follow (refusal.Gap l)))
+leads e number _ = inr refl
 
 refused_at : (folder : ℕ) (a z : Links) (e : Entry) (number : ℕ) (f : Fault) → LeadHas folder a z number e.id → At folder a z e (after_refused e number f)
 refused_at folder a z e number f has = by (leads e number f)
   where
     by : Leads e number f → At folder a z e (after_refused e number f)
     by (inl (at, is)) = subst (At folder a z e) (sym is) (refl, has)
-    by (inr is) = subst (At folder a z e) (sym is) tt
+    by (inr is) = subst (At folder a z e) (sym is) (Falls f refl)
 
 fault_at : (folder : ℕ) (a z : Links) (e : Entry) (at : UpdateStep) (f : Fault) → AtStep folder a z e.id at → At folder a z e (after_fault e at f)
-fault_at folder a z e StageFollow f has = tt
-fault_at folder a z e StageLead f has = tt
-fault_at folder a z e OrderLead f has = tt
 fault_at folder a z e (FollowOn number false) f has = refused_at folder a z e number f has
-fault_at folder a z e (FollowOn number true) f has = tt
-fault_at folder a z e (WhichOther number at) f has = tt
-fault_at folder a z e (FollowOther number at id) f has = tt
+fault_at folder a z e _ f has = Falls f refl
 
 -- ---- one step of an update
-
-ended_at : (folder : ℕ) (a z : Links) (e : Entry) (c : Change) (number : ℕ) → e.change ≡ c → LeadHas folder a z number e.id → FollowHas folder a z number e.id → AtEnd folder a z e (updated c e.doc number)
-ended_at folder a z e (change.Post shape row tags) number is lead follow = (ap (λ (x : Change). updated x e.doc number) (sym is), lead, follow)
-ended_at folder a z e change.Remove number is lead follow = (ap (λ (x : Change). updated x e.doc number) (sym is), lead, follow)
 
 repaired_at : (b : Bool) (folder : ℕ) (a z : Links) (e : Entry) (number at : ℕ) → LeadHas folder a z number e.id → At folder a z e (cond b (Updating e (WhichOther number (at + 1))) (Updating e (FollowOn number true)))
 repaired_at true folder a z e number at has = (refl, has)
 repaired_at false folder a z e number at has = (refl, has)
 
 step_later : (folder : ℕ) (a m z : Links) (id : UpdateId) (at : UpdateStep) → Grow m z → AtStep folder a m id at → AtStep folder a z id at
-step_later folder a m z id StageFollow g h = tt
-step_later folder a m z id StageLead g h = tt
-step_later folder a m z id OrderLead g h = tt
 step_later folder a m z id (FollowOn number repaired) g h = told_later a.lead.folders m.lead.folders z.lead.folders folder number id g.lead h
 step_later folder a m z id (WhichOther number at) g h = told_later a.lead.folders m.lead.folders z.lead.folders folder number id g.lead h
 step_later folder a m z id (FollowOther number at other) g h = told_later a.lead.folders m.lead.folders z.lead.folders folder number id g.lead h
+step_later folder a m z id _ g h = tt
 
 mark_at : (a m z : Links) (run : Run) (e : Entry) (at : UpdateStep) (frame : List ℕ) (k : Mark) → Grow a m → AtStep run.kept.folder.0 a m e.id at → ExchangedOver (side_of at) m z (ask_request run (to (side_of at) (want_of e (single_of e.id at)))) frame
     → confirmed (side_of at) (single_of e.id at) (name run run.step) frame ≡ Ok k → At run.kept.folder.0 a z e (after_mark e at k)
@@ -275,7 +185,7 @@ mark_at a m z run e (FollowOn number repaired) frame k g has (same, ask) is =
     let r : Request = ask_request run (to side.Follow (want.Follow number e.id)) in
     let now : ToldAt m.follow.folders z.follow.folders run.kept.folder.0 number e.id = told_has m.follow.folders z.follow.folders r frame h.reply number e.id ask.in_range.want.0.some ask.replies h.came says in
     let grows : Grow m z = over_grows side.Follow m z r frame (same, ask) in
-    ended_at run.kept.folder.0 a z e e.change number refl (told_later a.lead.folders m.lead.folders z.lead.folders run.kept.folder.0 number e.id grows.lead has)
+    Stands number refl (told_later a.lead.folders m.lead.folders z.lead.folders run.kept.folder.0 number e.id grows.lead has)
     (told_earlier a.follow.folders m.follow.folders z.follow.folders run.kept.folder.0 number e.id g.follow now)
 mark_at a m z run e (WhichOther number at) frame k g has over is = (refl, step_later run.kept.folder.0 a m z e.id (WhichOther number at) (over_grows side.Lead m z _ frame over) has)
 mark_at a m z run e (FollowOther number at id) frame k g has over is =
@@ -289,24 +199,15 @@ after_at a m z run e at frame (Err f) g has over is = fault_at run.kept.folder.0
 -- ---- a whole update
 
 ended_folder : (k : KeptState) (o : Outcome) → (finished k o).folder ≡ k.folder
-ended_folder k (Posted doc number) = refl
-ended_folder k (Removed doc number) = refl
-ended_folder k (Accepted answer) = refl
-ended_folder k NothingPending = refl
-ended_folder k (Lengths lead follow seen) = refl
-ended_folder k (Rotated epoch) = refl
 ended_folder k (Failed f) = refl
+ended_folder k _ = refl
 
 pub kept_folder : (k : KeptState) (p : Phase) → (kept_at k p).folder ≡ k.folder
-kept_folder k (Updating e at) = refl
-kept_folder k (Measuring word lead) = refl
-kept_folder k (Searching q lead) = refl
 kept_folder k (Ended o) = ended_folder k o
+kept_folder k _ = refl
 
 -- from a phase of an update to its end
 by_phase : (run : Run) (p : Phase) (frames : List (List ℕ)) (a m z : Links) (e : Entry) (o : Outcome) → run.phase ≡ p → Grow a m → At run.kept.folder.0 a m e p → ExchangedInTurn run frames m z → outcome_at (run_after run frames).phase ≡ Some o → AtEnd run.kept.folder.0 a z e o × Grow a z
-by_phase run (Measuring word lead) frames a m z e o is g at went ends = absurd at
-by_phase run (Searching q lead) frames a m z e o is g at went ends = absurd at
 by_phase run (Updating e' at) [] a m z e o is g h went ends = absurd (let none : outcome_at run.phase ≡ None = ap outcome_at is in cc)
 by_phase run (Updating e' at) (f ∷ frames) a m z e o is g (same, has) (n, turned, more) ends =
     let over : ExchangedOver (side_of at) m n (ask_request run (to (side_of at) (want_of e' (single_of e'.id at)))) f = subst (λ (p : Phase). RunExchanged run (asks p) m n f) is turned in
@@ -322,6 +223,7 @@ by_phase run (Ended x) [] a m z e o is g at went ends =
     let same : x ≡ o = let now : outcome_at run.phase ≡ Some x = ap outcome_at is in cc in
     (subst (λ (l : Links). AtEnd run.kept.folder.0 a l e o) (sym went) (subst (AtEnd run.kept.folder.0 a m e) same at), subst (Grow a) (sym went) g)
 by_phase run (Ended x) (f ∷ frames) a m z e o is g at (n, turned, more) ends = absurd (subst (λ (p : Phase). RunExchanged run (asks p) m n f) is turned)
+by_phase run _ frames a m z e o is g at went ends = absurd at
 
 -- an update that ended stands at its number in both histories
 pub update_ended : (run : Run) (e : Entry) (frames : List (List ℕ)) (a z : Links) (o : Outcome) → run.phase ≡ Updating e StageFollow → ExchangedInTurn run frames a z → ended_of run frames ≡ Some o → AtEnd run.kept.folder.0 a z e o × Grow a z

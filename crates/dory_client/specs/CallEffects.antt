@@ -1,5 +1,5 @@
 -- What a command that is done did: which update both domains have at one number, and how far the member has seen.
-use Rattle.std.specs.Prelude.{ℕ, ◌≡◌, ◌≤◌, ◌-◌, ⊤, List, length, slice_get, Option, Some, None, Result, Ok, Err}
+use Rattle.std.specs.Prelude.{ℕ, ◌≡◌, ◌≤◌, ◌-◌, ⊤, List, length, slice_get, Option, Some, None, Ok}
 use Rattle.std.specs.Io.KnownBytes.{Appends}
 use Rattle.dory_base.specs.Step.{ids_of}
 use Rattle.dory_base.specs.declared.entry.Entry.{Entry}
@@ -7,8 +7,6 @@ use Rattle.dory_base.specs.declared.ids.UpdateId.{UpdateId}
 use Rattle.dory_io.specs.Bytes.{Tells}
 use Rattle.dory_link.specs.Told.{Told}
 use Rattle.dory_cli.specs.Line.{line_of as read_of}
-use Rattle.dory_cli.specs.declared.line.Line.{Line}
-use Rattle.dory_cli.specs.declared.fault.UsageFault.{UsageFault}
 use Rattle.dory_state.specs.declared.kept.KeptState.{KeptState}
 use Rattle.dory_state.specs.Spelling.{IsKeptState}
 use Rattle.dory_state.specs.Reading.{state_of}
@@ -17,14 +15,13 @@ use Rattle.dory_member.specs.declared.phase.Phase.TheVariants.{Updating, Measuri
 use Rattle.dory_member.specs.declared.phase.Run.{Run}
 use Rattle.dory_member.specs.Course.{begun, updated}
 use Rattle.dory_client.specs.declared.start.Todo.{Todo}
-use Rattle.dory_client.specs.declared.start.Start.{Start}
-use Rattle.dory_client.specs.declared.start.Start.TheVariants.{Init, Act}
+use Rattle.dory_client.specs.ByWords.{ByWords}
 use Rattle.dory_client.specs.Command.{HasText}
 use Rattle.dory_client.specs.CommandEnds.{outcome_line}
 use Rattle.dory_client.specs.Kept.{KeepsOf}
-use Rattle.dory_client.specs.Scene.{Input}
+use Rattle.dory_client.specs.Scene.{Moment}
 use Rattle.dory_drive.specs.Scene.{Scene}
-use Rattle.dory_client.specs.Start.{start_of, command_of}
+use Rattle.dory_client.specs.Start.{command_of}
 
 -- a history has the update of this id at this number, counted from 1
 pub record HasAt (history : List Entry) (number : ℕ) (id : UpdateId) : Type 0 where
@@ -73,25 +70,16 @@ pub record IsDone (k : KeptState) (run : Run) (before after : Scene) : Type 0 wh
   pub confirmed : Confirms k.folder.0 run.phase before after
 
 -- the command of a line, in the state that is kept, and its run
-pub record IsBegun (t : Todo) (seed : List ℕ) (input input' : Input) (before : Scene) (k : KeptState) (run : Run) : Type 0 where
+pub record IsBegun (t : Todo) (seed : List ℕ) (before after : Moment) (k : KeptState) (run : Run) : Type 0 where
   pub bytes : List ℕ
   pub text : List ℕ
-  pub is_kept : Tells before.kept (Some bytes)
+  pub is_kept : Tells before.outside.kept (Some bytes)
   pub is_state : state_of bytes ≡ Ok k
   pub in_range : IsKeptState k
-  pub has_text : HasText k t input input' text
+  pub has_text : HasText k t before.input after.input text
   pub begins : begun k seed (command_of k text t) ≡ Ok run
 
--- a line that was done: a first state, or a command in the state that is kept
-abbrev pub StartEffects : Start → List ℕ → Input → Input → Scene → Scene → Type 0
-StartEffects (Init first) seed input input' before after = ⊤
-StartEffects (Act t) seed input input' before after = (k : KeptState) × (run : Run) × IsBegun t seed input input' before k run × IsDone k run before after
-
--- the same of words that were read as a line
-abbrev pub LineEffects : Result Line UsageFault → List ℕ → Input → Input → Scene → Scene → Type 0
-LineEffects (Ok line) seed input input' before after = StartEffects (start_of line) seed input input' before after
-LineEffects (Err fault) seed input input' before after = ⊥
-
--- what words that were done did
-abbrev pub CallEffects : List (List ℕ) → List ℕ → Input → Input → Scene → Scene → Type 0
-CallEffects words seed input input' before after = LineEffects (read_of words) seed input input' before after
+-- what words that were done did: a first state begins, or a command was done in the state that is kept
+abbrev pub CallEffects : List (List ℕ) → List ℕ → Moment → Moment → Type 0
+CallEffects words seed before after =
+    ByWords (read_of words) (λ first. ⊤) (λ t. (k : KeptState) × (run : Run) × IsBegun t seed before after k run × IsDone k run before.outside after.outside) ⊥

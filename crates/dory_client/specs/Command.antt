@@ -28,7 +28,9 @@ pub record WasText (input input' : Input) (text : List ℕ) : Type 0 where
 -- the row of the text that the input had, or why there is none
 abbrev pub HasRow : KeptState → Input → Input → Result (List Bool) ClientEnd → Type 0
 HasRow k input input' (Ok row) = (text : List ℕ) × WasText input input' text × (row ≡ plain_row_of (folder_keys k) k.shape (words_in text))
-HasRow k input input' (Err end) = ((e : InputEnd) × IsNoText input.left input'.left input.given input'.given e × (end ≡ input_end e)) ⊎ ((text : List ℕ) × WasText input input' text × (end ≡ ends.NoMemory))
+HasRow k input input' (Err end) =
+    ((e : InputEnd) × IsNoText input.left input'.left input.given input'.given e × (end ≡ input_end e))
+    ⊎ ((text : List ℕ) × WasText input input' text × (end ≡ ends.NoMemory))
 
 -- no post is refused in this state, whatever its row is
 abbrev pub MayPost : KeptState → Type 0
@@ -47,7 +49,8 @@ HasNoText k (Plain c) input input' e = ⊥
 -- why there is no command
 pub data NoCommand (k : KeptState) (t : Todo) (input input' : Input) (end : ClientEnd) : Type 0 where
   -- it is refused, whatever the input is
-  Refused : (f : Fault) → ((seed : List ℕ) → begun k seed (command_of k [] t) ≡ Err f) → IsUnread input input' → end ≡ fault_end f → NoCommand k t input input' end
+  Refused : (f : Fault) → ((seed : List ℕ) → begun k seed (command_of k [] t) ≡ Err f) → IsUnread input input' → end ≡ fault_end f
+      → NoCommand k t input input' end
   -- the input failed or is too long, or memory ran out
   NoText : (e : InputEnd) → HasNoText k t input input' e → end ≡ input_end e → NoCommand k t input input' end
   -- memory ran out after the text was read

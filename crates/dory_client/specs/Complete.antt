@@ -1,21 +1,22 @@
--- Over which links a search fails no check but by a refusal.
-use Rattle.std.specs.Prelude.{ℕ, ◌≡◌, ◌≤◌, ⊤, false, List, Option, Some, None, Ok, length}
+-- Over which links a search is complete.
+use Rattle.std.specs.Prelude.{ℕ, ◌≡◌, ◌≤◌, List, Option, Some, None, Ok, length}
 use Rattle.std.specs.List.{AllByRecursion}
-use Rattle.dory_base.specs.declared.entry.Entry.{Entry}
-use Rattle.dory_seal.specs.Seal.{IsSealed}
-use Rattle.dory_member.specs.Course.{folder_keys}
+use Rattle.dory_base.specs.declared.ids.Side.{Side}
+use Rattle.dory_base.specs.declared.refusal.Refusal.{Refusal}
 use Rattle.dory_base.specs.History.{version_of}
-use Rattle.dory_link.specs.Told.{Told, Heard}
+use Rattle.dory_link.specs.Told.{Told}
+use Rattle.dory_seal.specs.Seal.{IsSealed}
 use Rattle.dory_verify.specs.declared.fault.CheckFault.{CheckFault}
 use Rattle.dory_verify.specs.declared.fault.CheckFault.TheVariants as fault
-use Rattle.dory_state.specs.declared.kept.KeptState.{KeptState}
-use Rattle.dory_io.specs.Causes.{Rose}
-use Rattle.dory_client.specs.declared.end.ClientEnd.{ClientEnd}
-use Rattle.dory_client.specs.declared.end.ClientEnd.TheVariants as ends
 use Rattle.dory_cli.specs.Line.{line_of}
 use Rattle.dory_cli.specs.declared.line.Line.TheVariants.{Search}
-use Rattle.dory_member.specs.Draw.{is_last_serial}
+use Rattle.dory_state.specs.declared.kept.KeptState.{KeptState}
 use Rattle.dory_state.specs.Reading.{state_of}
+use Rattle.dory_member.specs.Course.{folder_keys, lesser}
+use Rattle.dory_drive.specs.Scene.{Scene}
+use Rattle.dory_drive.specs.Way.{Links, scene_links}
+use Rattle.dory_client.specs.declared.end.ClientEnd.{ClientEnd}
+use Rattle.dory_client.specs.declared.end.ClientEnd.TheVariants as ends
 
 -- the kept bytes are told, and are this state
 abbrev pub KeepsState : Option (Option (List ℕ)) → KeptState → Type 0
@@ -28,70 +29,49 @@ abbrev pub TellsFolder : Option (ℕ → Option Told) → ℕ → Told → Type 
 TellsFolder None number folder = ⊥
 TellsFolder (Some folders) number folder = folders number ≡ Some folder
 
--- a link tells the folder of a state before and after a call, and before it the history is no shorter than what was seen
-pub record TellsSeen (before now : Heard) (state : KeptState) : Type 0 where
-  pub folder_before : Told
-  pub folder_now : Told
-  pub told_before : TellsFolder before.folders state.folder.0 folder_before
-  pub told_now : TellsFolder now.folders state.folder.0 folder_now
-  pub seen : state.seen ≤ length folder_before.history
+-- both links tell a folder under this number
+pub record BothTell (folder : ℕ) (m : Links) : Type 0 where
+  pub lead : Told
+  pub follow : Told
+  pub by_lead : TellsFolder m.lead.folders folder lead
+  pub by_follow : TellsFolder m.follow.folders folder follow
 
--- the versions that two histories both have are alike
-abbrev pub Agree : List Entry → List Entry → Type 0
-Agree a b = (number : ℕ) → number ≤ length a → number ≤ length b → version_of number a ≡ version_of number b
+-- neither history is shorter than what was seen
+pub record AreFresh (seen : ℕ) (lead follow : Told) : Type 0 where
+  pub lead_seen : seen ≤ length lead.history
+  pub follow_seen : seen ≤ length follow.history
 
--- Both links tell the folder of the kept state, each history is at the start no shorter than what was seen, and at the
--- end the versions that both histories have are alike and their entries sealed under the folder's keys. The shapes and
--- how many versions are retained may differ.
-pub record TellAlike (kept : Option (Option (List ℕ))) (lead lead' follow follow' : Heard) : Type 0 where
-  pub state : KeptState
-  pub keeps : KeepsState kept state
-  pub by_lead : TellsSeen lead lead' state
-  pub by_follow : TellsSeen follow follow' state
-  pub agree : Agree by_lead.folder_now.history by_follow.folder_now.history
-  pub sealed : AllByRecursion (IsSealed (folder_keys state)) by_lead.folder_now.history
+-- a length of a history, told at a moment between these two
+pub record IsBetween (before now : Told) (n : ℕ) : Type 0 where
+  pub least : length before.history ≤ n
+  pub most : n ≤ length now.history
 
--- the fault is that a domain refused
-abbrev pub IsDomainRefusal : CheckFault → Type 0
-IsDomainRefusal (fault.Refused side code) = ⊤
-IsDomainRefusal (fault.Form side at) = ⊥
-IsDomainRefusal (fault.Echo side asked got) = ⊥
-IsDomainRefusal (fault.Stale side latest seen) = ⊥
-IsDomainRefusal (fault.Version side asked got) = ⊥
-IsDomainRefusal (fault.Manifest place) = ⊥
-IsDomainRefusal (fault.Count side got want) = ⊥
-IsDomainRefusal (fault.TagSum probe got want) = ⊥
+-- the version that a search asks for: the smaller of both lengths as they were when it asked for them
+pub record IsVersion (lead lead' follow follow' : Told) (version : ℕ) : Type 0 where
+  pub lengths : ℕ × ℕ
+  pub of_lead : IsBetween lead lead' lengths.0
+  pub of_follow : IsBetween follow follow' lengths.1
+  pub smaller : version ≡ lesser lengths.0 lengths.1
 
--- a search that nothing outside failed ends done, or by a refusal; memory may run out
-abbrev pub SearchEndsWell : ClientEnd → Type 0
-SearchEndsWell ends.Done = ⊤
-SearchEndsWell (ends.Check f) = IsDomainRefusal f
-SearchEndsWell ends.NoMemory = ⊤
-SearchEndsWell (ends.Usage fault) = ⊥
-SearchEndsWell ends.NoState = ⊥
-SearchEndsWell (ends.StateForm fault) = ⊥
-SearchEndsWell ends.HasState = ⊥
-SearchEndsWell ends.KeeperFault = ⊥
-SearchEndsWell (ends.LinkFault side) = ⊥
-SearchEndsWell ends.InputFault = ⊥
-SearchEndsWell ends.InputLong = ⊥
-SearchEndsWell ends.OutputFault = ⊥
-SearchEndsWell (ends.Unconfirmed side want got) = ⊥
-SearchEndsWell (ends.Diverged number lead_id follow_id) = ⊥
-SearchEndsWell (ends.Unfinished id) = ⊥
-SearchEndsWell ends.SerialEnd = ⊥
-SearchEndsWell ends.EpochEnd = ⊥
+-- the entries up to a version are alike at both domains, and sealed under the keys of the state's folder; the shapes and
+-- how many versions are retained may differ, and so may what comes later
+pub record AreAlike (k : KeptState) (lead follow : Told) (version : ℕ) : Type 0 where
+  pub agree : version_of version lead.history ≡ version_of version follow.history
+  pub sealed : AllByRecursion (IsSealed (folder_keys k)) (version_of version lead.history)
 
--- the words are a search
-pub record IsSearchLine (words : List (List ℕ)) : Type 0 where
-  pub word : List ℕ
-  pub is : line_of words ≡ Ok (Search word)
+-- Over two links that tell the state's folder, whose histories were no shorter than what was seen: there is the version
+-- that a search asked for, and where the entries up to it are alike and sealed, this is so of it and of the lead's folder.
+abbrev pub AtVersion : KeptState → Scene → Scene → (ℕ → Told → Type 0) → Type 0
+AtVersion k before after says =
+    (t : BothTell k.folder.0 (scene_links before)) → (u : BothTell k.folder.0 (scene_links after)) → AreFresh k.seen t.lead t.follow
+    → (version : ℕ) × IsVersion t.lead u.lead t.follow u.follow version × (AreAlike k u.lead u.follow version → says version u.lead)
 
--- the words are a search, a serial is left, and no count of faults rose in the call
-pub record Unhindered (words : List (List ℕ)) (state : KeptState) (keeper keeper' lead lead' follow follow' out out' : ℕ) : Type 0 where
-  pub searches : IsSearchLine words
-  pub serial : is_last_serial state ≡ false
-  pub keeper_worked : ¬ Rose keeper keeper'
-  pub lead_worked : ¬ Rose lead lead'
-  pub follow_worked : ¬ Rose follow follow'
-  pub sink_worked : ¬ Rose out out'
+-- a check that failed failed since a domain refused
+abbrev pub FailsByRefusal : ClientEnd → Type 0
+FailsByRefusal end = (f : CheckFault) → end ≡ ends.Check f → (side : Side) × (code : Refusal) × (f ≡ fault.Refused side code)
+
+-- a search over such links fails no check but by a refusal, whatever failed outside
+abbrev pub IsComplete : List (List ℕ) → Scene → Scene → ClientEnd → Type 0
+IsComplete words before after end =
+    (word : List ℕ) → line_of words ≡ Ok (Search word) → (k : KeptState) → KeepsState before.kept k
+    → AtVersion k before after (λ version told. FailsByRefusal end)

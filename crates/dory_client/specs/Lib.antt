@@ -3,6 +3,7 @@ pub mod Input
 pub mod Start
 pub mod Ends
 pub mod Command
+pub mod ByWords
 pub mod Way
 pub mod Kept
 pub mod Text
@@ -12,7 +13,8 @@ pub mod Sought
 pub mod Headline
 pub mod CallEffects
 pub mod Complete
-pub mod Finishes
 pub mod KeptAfter
 pub mod CallPrints
 pub mod CallAsks
+pub mod CallEnds
+pub mod Call

@@ -16,28 +16,34 @@ use Rattle.dory_client.specs.declared.start.Start.{Start}
 use Rattle.dory_client.specs.declared.start.Start.TheVariants.{Init, Act}
 use Rattle.dory_client.specs.declared.end.ClientEnd.{ClientEnd}
 use Rattle.dory_client.specs.declared.end.ClientEnd.TheVariants as ends
-use Rattle.dory_client.specs.Command.{HasText, NoCommand}
-use Rattle.dory_client.specs.Ends.{fault_end, IsKeeperEnd}
+use Rattle.dory_client.specs.declared.input.InputEnd.{InputEnd}
+use Rattle.dory_client.specs.Command.{HasText, HasNoText}
+use Rattle.dory_client.specs.Ends.{fault_end, input_end, IsKeeperEnd}
 use Rattle.dory_client.specs.CommandEnds.{CommandEnds, Prints}
 use Rattle.dory_drive.specs.Kept.{KeepsNow, OldOrNew}
-use Rattle.dory_client.specs.Scene.{Input, IsUnread}
-use Rattle.dory_drive.specs.Scene.{Scene, AskedNothing, IsUntouched}
+use Rattle.dory_client.specs.Scene.{Moment, IsUnread}
+use Rattle.dory_drive.specs.Scene.{AskedNothing, IsUntouched}
 use Rattle.dory_client.specs.Start.{start_of, command_of}
 
 -- nothing was read, asked, kept or written
-abbrev pub IsQuiet : Input → Input → Scene → Scene → Type 0
-IsQuiet input input' before after = IsUnread input input' × IsUntouched before after
+abbrev pub IsQuiet : Moment → Moment → Type 0
+IsQuiet before after = IsUnread before.input after.input × IsUntouched before.outside after.outside
 
 -- a command in the state that is kept
-pub data Acts (k : KeptState) (seed : List ℕ) (t : Todo) (input input' : Input) (before after : Scene) (end : ClientEnd) : Type 0 where
-  -- there is no command, since it is refused or its input has no text
-  NotMade : NoCommand k t input input' end → IsUntouched before after → Acts k seed t input input' before after end
+pub data Acts (k : KeptState) (seed : List ℕ) (t : Todo) (before after : Moment) (end : ClientEnd) : Type 0 where
   -- it is refused, and its input wasn't read
-  Refused : (text : List ℕ) (f : Fault) → IsUnread input input' → begun k seed (command_of k text t) ≡ Err f → IsUntouched before after → end ≡ fault_end f → Acts k seed t input input' before after end
+  Refused : (text : List ℕ) (f : Fault) → IsUnread before.input after.input
+      → begun k seed (command_of k text t) ≡ Err f → IsUntouched before.outside after.outside
+      → end ≡ fault_end f → Acts k seed t before after end
+  -- its input failed or is too long, or memory ran out where it was read
+  NoText : (e : InputEnd) → HasNoText k t before.input after.input e → IsUntouched before.outside after.outside
+      → end ≡ input_end e → Acts k seed t before after end
   -- memory ran out where it was to begin
-  NoRoom : (text : List ℕ) → HasText k t input input' text → IsUntouched before after → end ≡ ends.NoMemory → Acts k seed t input input' before after end
+  NoRoom : (text : List ℕ) → HasText k t before.input after.input text → IsUntouched before.outside after.outside
+      → end ≡ ends.NoMemory → Acts k seed t before after end
   -- it began, and went on so
-  Began : (text : List ℕ) (run : Run) → HasText k t input input' text → begun k seed (command_of k text t) ≡ Ok run → CommandEnds run before after end → Acts k seed t input input' before after end
+  Began : (text : List ℕ) (run : Run) → HasText k t before.input after.input text → begun k seed (command_of k text t) ≡ Ok run
+      → CommandEnds run before.outside after.outside end → Acts k seed t before after end
 
 -- a first state is kept, and `ready` is written
 pub data StateBegins (first : KeptState) (kept kept' : Option (Option (List ℕ))) (written written' : Option (List ℕ)) (end : ClientEnd) : Type 0 where
@@ -45,31 +51,33 @@ pub data StateBegins (first : KeptState) (kept kept' : Option (Option (List ℕ)
   Saved : KeepsNow kept kept' first → Prints (codes "ready" ++ 10 ∷ []) written written' end → StateBegins first kept kept' written written' end
 
 -- kept bytes are read
-abbrev pub ActsIn : Result KeptState StateFault → List ℕ → Todo → Input → Input → Scene → Scene → ClientEnd → Type 0
-ActsIn (Ok k) seed t input input' before after end = IsKeptState k × Acts k seed t input input' before after end
-ActsIn (Err fault) seed t input input' before after end = IsQuiet input input' before after × (end ≡ ends.StateForm fault)
+abbrev pub ActsIn : Result KeptState StateFault → List ℕ → Todo → Moment → Moment → ClientEnd → Type 0
+ActsIn (Ok k) seed t before after end = IsKeptState k × Acts k seed t before after end
+ActsIn (Err fault) seed t before after end = IsQuiet before after × (end ≡ ends.StateForm fault)
 
 -- or memory runs out where they are read
-abbrev pub MayAct : Result KeptState StateFault → List ℕ → Todo → Input → Input → Scene → Scene → ClientEnd → Type 0
-MayAct read seed t input input' before after end = (IsQuiet input input' before after × (end ≡ ends.NoMemory)) ⊎ ActsIn read seed t input input' before after end
+abbrev pub MayAct : Result KeptState StateFault → List ℕ → Todo → Moment → Moment → ClientEnd → Type 0
+MayAct read seed t before after end = (IsQuiet before after × (end ≡ ends.NoMemory)) ⊎ ActsIn read seed t before after end
 
 -- a first state begins where nothing is kept, and a command acts in what is kept
-abbrev pub StartsIn : Start → Option (List ℕ) → List ℕ → Input → Input → Scene → Scene → ClientEnd → Type 0
-StartsIn (Init first) None seed input input' before after end = IsUnread input input' × AskedNothing before after × StateBegins first before.kept after.kept before.written after.written end
-StartsIn (Init first) (Some bytes) seed input input' before after end = IsQuiet input input' before after × (end ≡ ends.HasState)
-StartsIn (Act t) None seed input input' before after end = IsQuiet input input' before after × (end ≡ ends.NoState)
-StartsIn (Act t) (Some bytes) seed input input' before after end = MayAct (state_of bytes) seed t input input' before after end
+abbrev pub StartsIn : Start → Option (List ℕ) → List ℕ → Moment → Moment → ClientEnd → Type 0
+StartsIn (Init first) None seed before after end =
+    IsUnread before.input after.input × AskedNothing before.outside after.outside
+    × StateBegins first before.outside.kept after.outside.kept before.outside.written after.outside.written end
+StartsIn (Init first) (Some bytes) seed before after end = IsQuiet before after × (end ≡ ends.HasState)
+StartsIn (Act t) None seed before after end = IsQuiet before after × (end ≡ ends.NoState)
+StartsIn (Act t) (Some bytes) seed before after end = MayAct (state_of bytes) seed t before after end
 
 -- what is kept is loaded
-pub data Loads (s : Start) (seed : List ℕ) (input input' : Input) (before after : Scene) (end : ClientEnd) : Type 0 where
-  Unloaded : IsQuiet input input' before after → IsKeeperEnd end → Loads s seed input input' before after end
-  Loaded : (kept : Option (List ℕ)) → Tells before.kept kept → StartsIn s kept seed input input' before after end → Loads s seed input input' before after end
+pub data Loads (s : Start) (seed : List ℕ) (before after : Moment) (end : ClientEnd) : Type 0 where
+  Unloaded : IsQuiet before after → IsKeeperEnd end → Loads s seed before after end
+  Loaded : (kept : Option (List ℕ)) → Tells before.outside.kept kept → StartsIn s kept seed before after end → Loads s seed before after end
 
 -- a line, or the first thing that is wrong with the words
-abbrev pub Runs : Result Line UsageFault → List ℕ → Input → Input → Scene → Scene → ClientEnd → Type 0
-Runs (Ok line) seed input input' before after end = Loads (start_of line) seed input input' before after end
-Runs (Err fault) seed input input' before after end = IsQuiet input input' before after × ((end ≡ ends.Usage fault) ⊎ (end ≡ ends.NoMemory))
+abbrev pub Runs : Result Line UsageFault → List ℕ → Moment → Moment → ClientEnd → Type 0
+Runs (Ok line) seed before after end = Loads (start_of line) seed before after end
+Runs (Err fault) seed before after end = IsQuiet before after × ((end ≡ ends.Usage fault) ⊎ (end ≡ ends.NoMemory))
 
 -- the whole call
-abbrev pub IsRun : List (List ℕ) → List ℕ → Input → Input → Scene → Scene → ClientEnd → Type 0
-IsRun words seed input input' before after end = Runs (line_of words) seed input input' before after end
+abbrev pub IsRun : List (List ℕ) → List ℕ → Moment → Moment → ClientEnd → Type 0
+IsRun words seed before after end = Runs (line_of words) seed before after end

@@ -5,6 +5,7 @@ use Rattle.dory_bloom.specs.Positions.{positions_of}
 use Rattle.dory_dpf.specs.PointKey.{PointKey}
 use Rattle.dory_query.specs.Drawn.{keys_from}
 use Rattle.dory_base.specs.declared.ids.AskId.{AskId}
+use Rattle.dory_drive.specs.Pair.{SearchPair, by_side}
 use Rattle.dory_wire.specs.declared.message.Want.{Want}
 use Rattle.dory_wire.specs.declared.message.Want.TheVariants.{Search}
 use Rattle.dory_wire.specs.declared.message.Request.{Request}
@@ -43,3 +44,15 @@ step_request state step want = record { ask = ask_of state step; folder = state.
 -- a search at a version
 abbrev pub searching : KeptState → ℕ → ℕ → List PointKey → Request
 searching state step version keys = step_request state step (Search version state.shape keys)
+
+-- the pair of a search at a version: its asks are those at steps 2 and 3, after the two for the lengths
+abbrev pub pair_of : KeptState → List ℕ → List ℕ → ℕ → SearchPair
+pair_of state seed word version = record {
+  folder = state.folder;
+  keys = folder_keys state;
+  shape = state.shape;
+  word = word;
+  version = version;
+  ask = by_side (ask_of state 2) (ask_of state 3);
+  sent = by_side (sought_of state seed word).lead (sought_of state seed word).follow;
+}

@@ -55,7 +55,8 @@ fn input_end(end: InputEnd) -> ClientEnd
 
 /// The row of the text that the input has.
 fn read_row<S: Source>(alloc: Global, state: &KeptState, input: &mut S) -> Result<Bits, ClientEnd>
-    ensures row { HasRow state.now (input_at (S.left input.old) (S.given input.old)) (input_at (S.left input.new) (S.given input.new)) result }
+    ensures row { HasRow state.now (input_at (S.left input.old) (S.given input.old) (S.faults input.old))
+        (input_at (S.left input.new) (S.given input.new) (S.faults input.new)) result }
     ensures cause { HasCause (S.faults input.old) (S.faults input.new) (IsErrOf result ClientEnd.InputFault) }
     ensures long { IsErrOf result ClientEnd.InputLong → AreTooMany (S.left input.old) }
     ensures len { IfOk result (λ row. length row ≡ 2 ^ state.now.shape.depth) }
@@ -80,7 +81,8 @@ pub fn command_of<S: Source>(
 ) -> Result<Command, ClientEnd>
     requires state { IsKeptState state.now }
     requires todo { IsTodo todo }
-    ensures command { HasCommand state.now todo (input_at (S.left input.old) (S.given input.old)) (input_at (S.left input.new) (S.given input.new)) result }
+    ensures command { HasCommand state.now todo (input_at (S.left input.old) (S.given input.old) (S.faults input.old))
+        (input_at (S.left input.new) (S.given input.new) (S.faults input.new)) result }
     ensures cause { HasCause (S.faults input.old) (S.faults input.new) (IsErrOf result ClientEnd.InputFault) }
     ensures long { IsErrOf result ClientEnd.InputLong → AreTooMany (S.left input.old) }
     ensures fits { IfOk result (FitsCommand state.now.shape) }
