@@ -1,0 +1,15 @@
+pub mod Lists
+pub mod Moves
+pub mod Folders
+pub mod Phases
+pub mod Made
+pub mod Starts
+pub mod Replies
+pub mod Good
+pub mod Names
+pub mod Naming
+pub mod SeenLaws
+pub mod Searches
+pub mod Counts
+pub mod Every
+pub mod Worked

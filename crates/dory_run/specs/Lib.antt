@@ -1,0 +1,9 @@
+pub mod Happening
+pub mod Law
+pub mod Run
+pub mod Start
+pub mod World
+pub mod Kept
+pub mod Named
+pub mod Seen
+pub mod Worked
