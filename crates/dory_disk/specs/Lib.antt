@@ -1,0 +1,4 @@
+pub mod Disk
+pub mod Remembered
+pub mod RememberedLaws
+pub mod Untold

@@ -1,0 +1,12 @@
+pub mod Moments
+pub mod Pieces
+pub mod Scans
+pub mod Crashes
+pub mod Records
+pub mod Kept
+pub mod Asked
+pub mod Numbers
+pub mod Journals
+pub mod Looks
+pub mod Loads
+pub mod Walks
