@@ -1,0 +1,5 @@
+pub mod Folding
+pub mod Holding
+pub mod Making
+pub mod SeatLists
+pub mod Setting

@@ -1,0 +1,4 @@
+pub mod Seen
+pub mod Answering
+pub mod Reading
+pub mod Opening
