@@ -6,8 +6,8 @@ ghost use Rattle.dory_disk.specs.Remembered.{new_disk, replay, sizes, all_begin_
 ghost use Rattle.dory_disk.specs.RememberedLaws.{few_told, left_now, only_left, reads_left};
 
 use crate::disk::Disk;
-use dory_io::Fails;
 use dory_base::{Failed, NoMemory};
+use dory_io::Fails;
 use std::alloc::Global;
 
 /// A call that changed a disk, or what a crash may leave of it.
