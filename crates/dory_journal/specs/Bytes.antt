@@ -18,6 +18,7 @@ use Rattle.dory_journal.specs.Ops.{Op, want_of_op, op_of_want, may, log_after_op
 abbrev pub no_ask : AskId
 no_ask = record { member = record { 0 = 0 }; serial = 0; step = 0 }
 
+-- it is the ask of a record
 abbrev pub is_no_ask : AskId → Bool
 is_no_ask a = (a.member.0 == 0) && ((a.serial == 0) && (a.step == 0))
 
@@ -30,10 +31,12 @@ abbrev pub op_of_request : ℕ → Result Request WireFault → Option Op
 op_of_request folder (Err fault) = None
 op_of_request folder (Ok r) = if is_own folder r then op_of_want r.want else None
 
+-- an operation, if there is one, with the bytes behind it
 abbrev pub with_rest : List ℕ → Option Op → Option (Op × List ℕ)
 with_rest rest None = None
 with_rest rest (Some op) = Some (op, rest)
 
+-- the operation of the first frame that was cut from bytes, with the bytes behind it
 abbrev pub op_of_front : ℕ → Result (Option (List ℕ × List ℕ)) ℕ → Option (Op × List ℕ)
 op_of_front folder (Err n) = None
 op_of_front folder (Ok None) = None
@@ -60,9 +63,11 @@ pub record Scan : Type 0 where
   pub rest : List ℕ
   pub whole : Bool
 
+-- a scan that finds no further operation, and stops at these bytes
 abbrev pub stopped : Log → List ℕ → Bool → Scan
 stopped log rest whole = record { ops = []; log = log; rest = rest; whole = whole }
 
+-- this operation, and then what a scan found
 abbrev pub with_op : Op → Scan → Scan
 with_op op s = record { ops = op ∷ s.ops; log = s.log; rest = s.rest; whole = s.whole }
 
@@ -103,10 +108,12 @@ pub data Look : Type 0 where
   Bad : Look
   Holds : Op → List ℕ → Look
 
+-- what an open gate shows, by the operation behind it
 abbrev pub look_on : Option (Op × List ℕ) → Look
 look_on None = Bad
 look_on (Some x) = Holds x.0 x.1
 
+-- what the first gate of these bytes shows
 abbrev pub look_at : ℕ → List ℕ → Look
 look_at folder [] = Lost
 look_at folder (gate ∷ rest) = if gate == 1 then look_on (op_at folder rest) else Shut

@@ -38,6 +38,7 @@ pub record IsAnsweredAt (before : Seen) (want : Want) (what : What) (now at left
   pub answers : AnswersAt before.role at want what left
   pub seen : Grew left now
 
+-- so it is at some history
 abbrev pub IsAnswered : Seen → Want → What → Published → Type 0
 IsAnswered before want what now = (at : Published) × (left : Published) × IsAnsweredAt before want what now at left
 

@@ -42,6 +42,7 @@ IsWriting (Follow number id) = ⊤
 abbrev pub ReadsAt : Published → Want → What → Type 0
 ReadsAt h want what = IsReadOf (read_of h.shelf.shape h.shelf.retained (history_of h) want) what
 
+-- what a seat reads, by what it had seen of the folder, if there is such a folder
 abbrev pub ReadsBy : Option Seen → List Seen → ℕ → Want → What → List Seen → Type 0
 ReadsBy None seen number want what now = (what ≡ Refused NoFolder) × (now ≡ seen)
 ReadsBy (Some s) seen number want what now =
@@ -63,6 +64,7 @@ abbrev pub KeepsAt : Published → ℕ → Result Kept Refusal → Type 0
 KeepsAt h number (Ok kept) = (is_retained h number ≡ true) × (kept ≡ record { known = h; number = number })
 KeepsAt h number (Err code) = code ≡ (if is_retained h number then NoMemory else Unretained (oldest_of h) (newest_of h))
 
+-- what is kept, by what the seat had seen of the folder, if there is such a folder
 abbrev pub KeepsBy : Option Seen → List Seen → ℕ → ℕ → Result Kept Refusal → List Seen → Type 0
 KeepsBy None seen folder number result now = (result ≡ Err NoFolder) × (now ≡ seen)
 KeepsBy (Some s) seen folder number result now =
@@ -79,6 +81,7 @@ pub record Noted : Type 0 where
   pub number : ℕ
   pub known : Published
 
+-- what is told, by what the seat had seen of the folder, if there is such a folder
 abbrev pub TellsBy : Option Seen → List Seen → ℕ → Result Noted Refusal → List Seen → Type 0
 TellsBy None seen number result now = (result ≡ Err NoFolder) × (now ≡ seen)
 TellsBy (Some s) seen number result now =
@@ -88,6 +91,7 @@ TellsBy (Some s) seen number result now =
 abbrev pub Tells : List Seen → ℕ → Result Noted Refusal → List Seen → Type 0
 Tells seen number result now = TellsBy (seen_in seen number) seen number result now
 
+-- what a seat learns, by what it had seen of the folder; a note of another folder teaches nothing
 abbrev pub LearnsBy : Option Seen → List Seen → Noted → List Seen → Type 0
 LearnsBy None seen note now = now ≡ seen
 LearnsBy (Some s) seen note now = (known : Published) × Grew s.known known × Grew note.known known × (now ≡ with_seen note.number known seen)

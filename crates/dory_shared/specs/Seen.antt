@@ -30,6 +30,7 @@ pub record Named : Type 0 where
   pub role : Side
   pub shelf : Shelf
 
+-- the name of a folder that was seen
 abbrev pub named_of : Seen → Named
 named_of s = record { number = s.number; role = s.role; shelf = s.known.shelf }
 

@@ -23,6 +23,7 @@ pub record Published : Type 0 where
   pub shelf : Shelf
   pub events : List Event
 
+-- the published history of these parts
 abbrev pub published : Book → Dims → ℕ → List Event → Published
 published book shape retained events = record { shelf = record { book = book; shape = shape; retained = retained }; events = events }
 

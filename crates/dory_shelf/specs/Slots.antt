@@ -5,9 +5,11 @@ use Rattle.dory_shelf.specs.ShelfRule.{Shown}
 use Rattle.dory_shelf.specs.declared.store.Stored.{Stored}
 use Rattle.dory_shelf.specs.declared.store.Change.{Change}
 
+-- the slots with this version at its place
 abbrev pub slots_with : List (Option Published) → Stored → List (Option Published)
 slots_with slots k = slice_set slots (k.number % length slots) (Some k.front)
 
+-- the slots after a change, which may keep no version
 abbrev pub slots_after : List (Option Published) → Option Stored → List (Option Published)
 slots_after slots None = slots
 slots_after slots (Some k) = slots_with slots k
