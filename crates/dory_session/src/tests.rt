@@ -274,6 +274,67 @@ const AT_1: [u8; 25] = [
     0, 0, 0, 0x15, 0x81, 0, 0, 0, 3, 0, 0, 0, 0, 0, 0, 0, 2, 0, 0, 0, 0, 0, 0, 0, 1,
 ];
 
+// The replies that update 0.2 is staged, and that it is committed as number 1.
+const STAGED: [u8; 33] = [
+    0, 0, 0, 0x1d, 0x84, 0, 0, 0, 0, 0, 0, 0, 0, 0, 0, 0, 2, 0, 0, 0, 0, 0, 0, 0, 0, 0, 0, 0, 0, 0,
+    0, 0, 2,
+];
+
+const COMMITTED: [u8; 37] = [
+    0, 0, 0, 0x21, 0x85, 0, 0, 0, 0, 0, 0, 0, 0, 0, 0, 0, 3, 0, 0, 0, 0, 0, 0, 0, 1, 0, 0, 0, 0, 0,
+    0, 0, 0, 0, 0, 0, 2,
+];
+
+/// The end of a session over a domain on these frames, whose listed writes fail, and whether these are what it wrote.
+fn end_writing(
+    alloc: Global,
+    core: &mut DomainCore,
+    frames: &[&[u8]],
+    fails: &[u64],
+    written: &[u8],
+) -> Result<(SessionEnd, bool), NoMemory> {
+    let mut bytes = Vec::new(alloc);
+    for frame in frames {
+        bytes.extend_from_slice(frame)?;
+    }
+    let mut source = VecSource::new(bytes, Vec::new(alloc));
+    let mut sink = VecSink::new(alloc, 200, Vec::from_slice(alloc, fails)?)?;
+    let end = serve_core(alloc, core, &mut source, &mut sink);
+    Ok((end, sink.bytes() == written))
+}
+
+#[test]
+fn an_update_whose_reply_is_not_written_is_committed_once(rt: HostRuntime) -> Result<(), Fail> {
+    let alloc = rt.alloc();
+    let Ok(mut core) = core(alloc) else {
+        return Err(Fail::from(AllocError));
+    };
+    let Ok((end, wrote)) = end_writing(alloc, &mut core, &[&STAGE, &ORDER_STAGED], &[2], &STAGED)
+    else {
+        return Err(Fail::from(AllocError));
+    };
+    assert_eq!(rt;
+        end,
+        SessionEnd {
+            answered: 1,
+            how: How::OutputFault
+        }
+    );
+    assert!(rt; wrote && core.length(FolderId(1)) == Some(1));
+    let Ok((end, wrote)) = end_writing(alloc, &mut core, &[&ORDER_STAGED], &[], &COMMITTED) else {
+        return Err(Fail::from(AllocError));
+    };
+    assert_eq!(rt;
+        end,
+        SessionEnd {
+            answered: 1,
+            how: How::Ended
+        }
+    );
+    assert!(rt; wrote && core.length(FolderId(1)) == Some(1));
+    Ok(())
+}
+
 /// A domain behind a lock, which waits while another has it.
 #[derive(Drop)]
 struct Locked<'a, R> {

@@ -2,6 +2,7 @@
 ghost use Rattle.std.specs.Prelude.{◌≡◌, ◌≤◌};
 ghost use Rattle.dory_state.specs.Spelling.{IsKeptState};
 
+mod hostile;
 mod lies;
 mod lost;
 mod members;
