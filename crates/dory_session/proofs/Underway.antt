@@ -1,5 +1,5 @@
 -- How a session begins, goes on by a message, and ends.
-use Rattle.std.proofs.Common.{◌≡◌, ◌∙◌, ℕ, ◌+◌, ◌≤◌, List, [], ◌∷◌, ◌++◌, length, take, Option, Some, Ok, inl, inr, refl, sym, ap, subst, arith, append_assoc, append-nil}
+use Rattle.std.proofs.Common.{◌≡◌, ◌∙◌, ℕ, ◌+◌, ◌≤◌, ◌<◌, List, [], ◌∷◌, ◌++◌, length, take, Option, Some, Ok, inl, inr, refl, sym, ap, subst, arith, append_assoc, append-nil}
 use Rattle.std.specs.Io.KnownBytes.{Appends}
 use Rattle.std.proofs.KnownBytes.{Appends-nil, Appends-trans}
 use Rattle.std.specs.List.{AllByRecursion, concat}
@@ -11,7 +11,7 @@ use Rattle.dory_io.specs.Causes.{HasCause}
 use Rattle.dory_session.specs.declared.end.How.{How}
 use Rattle.dory_session.specs.declared.end.How.TheVariants.{Ended, Cut, Length, Kind, Body, Trailing, InputFault, OutputFault, Limit, NoMemory}
 use Rattle.dory_domain.specs.Answered.{Steps}
-use Rattle.dory_session.specs.Ends.{Stops, Breaks, IsEnd}
+use Rattle.dory_session.specs.Ends.{Stops, Breaks, IsEnd, IsLimited}
 use Rattle.dory_io.specs.Bytes.{BytesRead}
 use Rattle.dory_session.specs.Session.{Around, around, IsUnderway, IsSession}
 use Rattle.dory_io.proofs.Coming.{none_came, more_came}
@@ -162,3 +162,17 @@ limit_not_input e = absurd cc
 
 pub limit_not_output : ◌≡◌ {A = How} Limit OutputFault → ⊥
 limit_not_output e = absurd cc
+
+-- no message comes, or one breaks: that is no limit
+pub stops_no_limit : (how : How) (rest : List ℕ) (a b : Option (List ℕ)) → Stops how rest a b → how ≡ Limit → ⊥
+stops_no_limit how rest a b s e = subst (λ (h : How). Stops h rest a b) e s
+
+pub breaks_no_limit : {V : Type 0} (steps : Steps V) (how : How) (before : V) (message part : List ℕ) (now : V) → Breaks steps how before message part now → how ≡ Limit → ⊥
+breaks_no_limit steps how before message part now b e = subst (λ (h : How). Breaks steps h before message part now) e b
+
+-- an end before the limit is another
+pub below_limit : (answered : ℕ) (how : How) → answered < 4294967295 → (how ≡ Limit → ⊥) → IsLimited (record { answered = answered; how = how })
+below_limit answered how few other = record {
+  reached = λ all. absurd (omega (arith, few, all));
+  only = λ e. absurd (other e);
+}

@@ -6,6 +6,7 @@ use Rattle.dory_wire.specs.Cut.{front_of}
 use Rattle.dory_wire.specs.Reading.{request_of}
 use Rattle.dory_io.specs.Bytes.{IsOver}
 use Rattle.dory_session.specs.declared.end.How.{How}
+use Rattle.dory_session.specs.declared.end.SessionEnd.{SessionEnd}
 use Rattle.dory_session.specs.declared.end.How.TheVariants.{Ended, Cut, Length, Kind, Body, Trailing, InputFault, OutputFault, Limit, NoMemory}
 use Rattle.dory_domain.specs.Answered.{Steps}
 
@@ -73,3 +74,8 @@ IsEnd steps NoMemory answered rest before left mid part now = Nothing mid part n
 abbrev pub WritesReply : {V : Type 0} → Steps V → V → List ℕ → List ℕ → V → Result (Unit {0}) How → Type 0
 WritesReply steps before message part now (Ok u) = steps before message part now
 WritesReply steps before message part now (Err how) = Breaks steps how before message part now
+
+-- the end is the limit where as many messages were answered as a session answers, and nowhere else
+pub record IsLimited (end : SessionEnd) : Type 0 where
+  pub reached : end.answered ≡ 4294967295 → end.how ≡ Limit
+  pub only : end.how ≡ Limit → end.answered ≡ 4294967295

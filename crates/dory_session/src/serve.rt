@@ -2,6 +2,7 @@
 ghost use Rattle.std.specs.Prelude.{◌≡◌};
 ghost use Rattle.dory_io.specs.Causes.{HasCause, Rose};
 ghost use Rattle.dory_domain.specs.Answered.{IsAnswered};
+ghost use Rattle.dory_session.specs.Ends.{IsLimited};
 ghost use Rattle.dory_session.specs.Session.{around, IsSession, IsWell, EndsWell};
 
 use crate::answers::Answers;
@@ -28,6 +29,8 @@ pub fn serve_session<D: Answers, S: Source, O: Sink>(
     ensures session { IsSession D.steps (around (D.seen domain.old) (S.left input.old) (S.given input.old) (O.written out.old)) (around (D.seen domain.new) (S.left input.new) (S.given input.new) (O.written out.new)) result }
     ensures input_fault { HasCause (S.faults input.old) (S.faults input.new) (result.how ≡ How.InputFault) }
     ensures output_fault { HasCause (O.faults out.old) (O.faults out.new) (result.how ≡ How.OutputFault) }
+    // The limit ends it exactly where as many messages were answered as a session answers.
+    ensures limited { IsLimited result }
     // An input of requests, fewer than the limit, is answered whole where nothing outside failed and memory didn't run out.
     ensures complete { IsWell (S.left input.old) → ¬ Rose (S.faults input.old) (S.faults input.new) → ¬ Rose (O.faults out.old) (O.faults out.new) → EndsWell result.how }
 {
@@ -70,6 +73,8 @@ pub fn serve_core<S: Source, O: Sink>(
     ensures session { IsSession IsAnswered (around core.old.folders (S.left input.old) (S.given input.old) (O.written out.old)) (around core.new.folders (S.left input.new) (S.given input.new) (O.written out.new)) result }
     ensures input_fault { HasCause (S.faults input.old) (S.faults input.new) (result.how ≡ How.InputFault) }
     ensures output_fault { HasCause (O.faults out.old) (O.faults out.new) (result.how ≡ How.OutputFault) }
+    // The limit ends it exactly where as many messages were answered as a session answers.
+    ensures limited { IsLimited result }
     // An input of requests, fewer than the limit, is answered whole where nothing outside failed and memory didn't run out.
     ensures complete { IsWell (S.left input.old) → ¬ Rose (S.faults input.old) (S.faults input.new) → ¬ Rose (O.faults out.old) (O.faults out.new) → EndsWell result.how }
 {

@@ -1,7 +1,7 @@
 use Rattle.std.proofs.Common.{rules, arith, inl, refl, sym, subst, ap, ◌≡◌, ◌≤◌, ℕ, List, [], Err}
 use Rattle.dory_session.specs.Ends.{Breaks}
 use Rattle.dory_session.specs.Session.{around, IsUnderway}
-use Rattle.dory_session.proofs.Underway.{begun, at_once, stopped, broken, gone_on, at_limit, caused, uncaused, stops_not_output, breaks_not_input, limit_not_input, limit_not_output}
+use Rattle.dory_session.proofs.Underway.{begun, at_once, stopped, broken, gone_on, at_limit, caused, uncaused, stops_not_output, breaks_not_input, limit_not_input, limit_not_output, stops_no_limit, breaks_no_limit, below_limit}
 use Rattle.dory_session.proofs.Complete.{ends_well}
 use Rattle.dory_session.proofs.serve.serve_session.Goals as goal
 
@@ -34,6 +34,11 @@ returns-in-Err-clause-output_fault g c =
     let next = c.in-Err.ensures.next in
     uncaused _ _ _ c.loop-answered.invariant.sink (stops_not_output _ _ _ _ next.2)
 
+pub returns-in-Err-clause-limited : goal.returns-in-Err-clause-limited
+returns-in-Err-clause-limited g c =
+    let next = c.in-Err.ensures.next in
+    below_limit _ _ (search rules) (stops_no_limit _ _ _ _ next.2)
+
 pub returns-in-Err-clause-complete : goal.returns-in-Err-clause-complete
 returns-in-Err-clause-complete g c = λ well no_in no_out.
     ends_well _ _ _ _ _ _ _ _ _ (returns-in-Err-clause-session g c) (returns-in-Err-clause-input_fault g c) (returns-in-Err-clause-output_fault g c) well no_in no_out
@@ -54,6 +59,11 @@ returns-in-Err-reply_to-clause-input_fault g c =
 
 pub returns-in-Err-reply_to-clause-output_fault : goal.returns-in-Err-reply_to-clause-output_fault
 returns-in-Err-reply_to-clause-output_fault g c = caused _ _ _ _ _ c.loop-answered.invariant.sink c.in-Err-reply_to.ensures.cause (λ e. ap Err e)
+
+pub returns-in-Err-reply_to-clause-limited : goal.returns-in-Err-reply_to-clause-limited
+returns-in-Err-reply_to-clause-limited g c =
+    let replies = c.in-Err-reply_to.ensures.replies in
+    below_limit _ _ (search rules) (breaks_no_limit _ _ _ _ _ _ replies.2)
 
 pub returns-in-Err-reply_to-clause-complete : goal.returns-in-Err-reply_to-clause-complete
 returns-in-Err-reply_to-clause-complete g c = λ well no_in no_out.
