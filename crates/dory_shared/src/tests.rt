@@ -4,6 +4,8 @@ ghost use Rattle.dory_dpf.specs.PointKey.{IsKeyOf};
 ghost use Rattle.dory_wire.specs.Spelling.{IsEntry, IsRequest, IsWant, AreKeys};
 ghost use Rattle.dory_shared.specs.Seen.{names_of};
 
+mod refused;
+
 use crate::{Domain, Held, Names, OpenError, Opened, Seat, open_domain};
 use dory_base::{
     AskId, Bits, Change, DocId, Entry, FolderId, MemberId, NoMemory, Refusal, Shape, Side, Tag,

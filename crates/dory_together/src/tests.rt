@@ -8,6 +8,7 @@ mod lost;
 mod members;
 mod pairs;
 mod served;
+mod shared;
 
 use dory_base::{FolderId, MemberId, Shape};
 use dory_state::KeptState;

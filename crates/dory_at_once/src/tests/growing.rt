@@ -2,12 +2,12 @@
 ghost use Rattle.std.specs.Prelude.{◌≡◌};
 ghost use Rattle.dory_shared.specs.Seen.{names_of};
 
-use super::{commit, config, request, update};
-use dory_base::NoMemory;
+use super::{commit, config, update};
+use crate::read_until;
+use dory_base::{FolderId, NoMemory};
 use dory_kernel::{RowKernel, plain_parity};
 use dory_shared::{Domain, Names, Opened, Seat, open_domain};
 use dory_shelf::Places;
-use dory_wire::{Want, What};
 use std::alloc::{AllocError, Global};
 use std::marker::Brand;
 use std::process::Abort;
@@ -37,8 +37,8 @@ fn write_all<J: Names, R: Wait>(
     all
 }
 
-/// Reads the length until it is this one: whether none was below the one before.
-fn read_until<R: Threads + Sync>(
+/// Reads the length until it is this one: whether none was below the one before, and the last is this one.
+fn reads<R: Threads + Sync>(
     rt: &R,
     alloc: Global,
     kernel: &RowKernel,
@@ -46,20 +46,8 @@ fn read_until<R: Threads + Sync>(
     count: u32,
 ) -> bool {
     let mut seat = seat;
-    let mut last = 0;
-    for _ in 0..u32::MAX {
-        let What::At { length } = seat.read(rt, alloc, kernel, &request(Want::Latest)).what else {
-            return false;
-        };
-        if length < last {
-            return false;
-        }
-        if length == count {
-            return true;
-        }
-        last = length;
-    }
-    false
+    let read = read_until(rt, alloc, kernel, &mut seat, FolderId(1), count);
+    read.rising && read.last == count
 }
 
 /// What the writer and the two readers say.
@@ -83,8 +71,8 @@ fn at_once<J: Names + Send + Sync, R: Threads + Wait + Abort + Sync>(
         || {
             join(
                 rt,
-                || read_until(rt, alloc, &domain.kernel, one, 10000),
-                || read_until(rt, alloc, &domain.kernel, two, 10000),
+                || reads(rt, alloc, &domain.kernel, one, 10000),
+                || reads(rt, alloc, &domain.kernel, two, 10000),
             )
         },
     );
