@@ -1,0 +1,4 @@
+pub mod Places
+pub mod Notes
+pub mod Steps
+pub mod Plays
