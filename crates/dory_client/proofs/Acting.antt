@@ -28,6 +28,7 @@ use Rattle.dory_client.specs.declared.start.Start.TheVariants.{Init, Act}
 use Rattle.dory_client.specs.declared.end.ClientEnd.{ClientEnd}
 use Rattle.dory_client.specs.declared.end.ClientEnd.TheVariants as ends
 use Rattle.dory_client.specs.ByWords.{ByStart, ByWords}
+use Rattle.dory_client.specs.CallCauses.{IsOfNoAsk}
 use Rattle.dory_client.specs.CallEffects.{IsBegun}
 use Rattle.dory_client.specs.CommandEnds.{CommandEnds, BrokeOff, CommandFailed, CommandTold, ExchangedBetween, IsGood, Prints, Wrote, WrotePart, Untold, outcome_line}
 use Rattle.dory_client.specs.Complete.{KeepsState}
@@ -35,7 +36,8 @@ use Rattle.dory_client.specs.Ends.{IsKeeperEnd, IsSilent, IsUndone, broken_end, 
 use Rattle.dory_client.specs.Kept.{KeepsOf}
 use Rattle.dory_client.specs.Run.{Acts, Refused, NoText, NoRoom, Began, ActsIn, Loads, Unloaded, Loaded, Runs, StartsIn, StateBegins}
 use Rattle.dory_client.specs.Scene.{Input, met}
-use Rattle.dory_client.specs.Start.{start_of}
+use Rattle.dory_client.specs.Start.{command_of, start_of}
+use Rattle.dory_client.proofs.Beginnings.{refused_no_ask}
 use Rattle.dory_client.proofs.WayLaws.{lost_bad, same_run}
 
 -- ---- ends at which nothing is written
@@ -67,6 +69,27 @@ at_keeper end (inr is) = silent_as end ends.NoMemory is tt
 
 pub undone : (end : ClientEnd) → IsSilent (kind_of end) → IsUndone end
 undone end quiet done = silent_as ends.Done end (sym done) quiet
+
+-- ---- ends that come of no ask
+
+pub no_ask : (end x : ClientEnd) → end ≡ x → IsOfNoAsk x → IsOfNoAsk end
+no_ask end x is none = subst IsOfNoAsk (sym is) none
+
+input_no_ask : (e : InputEnd) → IsOfNoAsk (input_end e)
+input_no_ask input.Fault = tt
+input_no_ask _ = tt
+
+-- an end that comes of no ask, and at which nothing is written
+pub record IsQuietEnd (end : ClientEnd) : Type 0 where
+  pub silent : IsSilent (kind_of end)
+  pub no_ask : IsOfNoAsk end
+
+quiet_as : (end x : ClientEnd) → end ≡ x → IsSilent (kind_of x) → IsOfNoAsk x → IsQuietEnd end
+quiet_as end x is silent none = record { silent = silent_as end x is silent; no_ask = no_ask end x is none }
+
+quiet_keeper : (end : ClientEnd) → IsKeeperEnd end → IsQuietEnd end
+quiet_keeper end (inl is) = quiet_as end ends.KeeperFault is tt tt
+quiet_keeper end (inr is) = quiet_as end ends.NoMemory is tt tt
 
 -- ---- in a told state
 
@@ -100,9 +123,9 @@ acted k seed t i i' a z end keeps (Loaded kept told starts) =
 
 -- ---- by the words
 
--- nothing was touched or written
+-- nothing was touched or written, and the end comes of no ask
 abbrev pub IsStill : Scene → Scene → ClientEnd → Type 0
-IsStill a z end = IsUntouched a z × IsSilent (kind_of end)
+IsStill a z end = IsUntouched a z × IsQuietEnd end
 
 -- the command began in the state that is kept, and went on
 abbrev pub BeginsOrNot : Todo → List ℕ → Input → Input → Scene → Scene → ClientEnd → Type 0
@@ -113,35 +136,35 @@ abbrev pub FirstOrNot : KeptState → Scene → Scene → ClientEnd → Type 0
 FirstOrNot first a z end = IsStill a z end ⊎ (AskedNothing a z × StateBegins first a.kept z.kept a.written z.written end)
 
 acts_begin : (t : Todo) (bytes seed : List ℕ) (i i' : Input) (a z : Scene) (end : ClientEnd) (k : KeptState) → Tells a.kept (Some bytes) → state_of bytes ≡ Ok k → IsKeptState k → Acts k seed t (met i a) (met i' z) end → BeginsOrNot t seed i i' a z end
-acts_begin t bytes seed i i' a z end k told is range (Refused text f has e u at) = inl (u, at_fault end f at)
-acts_begin t bytes seed i i' a z end k told is range (NoText e has u at) = inl (u, silent_as end (input_end e) at (input_silent e))
-acts_begin t bytes seed i i' a z end k told is range (NoRoom text has u at) = inl (u, silent_as end ends.NoMemory at tt)
+acts_begin t bytes seed i i' a z end k told is range (Refused text f has e u at) = inl (u, quiet_as end (fault_end f) at (fault_silent f) (refused_no_ask k seed (command_of k text t) f e))
+acts_begin t bytes seed i i' a z end k told is range (NoText e has u at) = inl (u, quiet_as end (input_end e) at (input_silent e) (input_no_ask e))
+acts_begin t bytes seed i i' a z end k told is range (NoRoom text has u at) = inl (u, quiet_as end ends.NoMemory at tt tt)
 acts_begin t bytes seed i i' a z end k told is range (Began text r has begins goes) =
     inr (k, r, record { bytes = bytes; text = text; is_kept = told; is_state = is; in_range = range; has_text = has; begins = begins }, goes)
 
 acts_in_begin : (t : Todo) (bytes seed : List ℕ) (i i' : Input) (a z : Scene) (end : ClientEnd) (read : Result KeptState StateFault) → Tells a.kept (Some bytes) → state_of bytes ≡ read → ActsIn read seed t (met i a) (met i' z) end → BeginsOrNot t seed i i' a z end
 acts_in_begin t bytes seed i i' a z end (Ok k) told is (range, acts) = acts_begin t bytes seed i i' a z end k told is range acts
-acts_in_begin t bytes seed i i' a z end (Err f) told is (quiet, at) = inl (quiet.1, silent_as end (ends.StateForm f) at tt)
+acts_in_begin t bytes seed i i' a z end (Err f) told is (quiet, at) = inl (quiet.1, quiet_as end (ends.StateForm f) at tt tt)
 
 pub begins_or_not : (t : Todo) (seed : List ℕ) (i i' : Input) (a z : Scene) (end : ClientEnd) → Loads (Act t) seed (met i a) (met i' z) end → BeginsOrNot t seed i i' a z end
-begins_or_not t seed i i' a z end (Unloaded quiet is) = inl (quiet.1, at_keeper end is)
-begins_or_not t seed i i' a z end (Loaded None told (quiet, at)) = inl (quiet.1, silent_as end ends.NoState at tt)
-begins_or_not t seed i i' a z end (Loaded (Some bytes) told (inl (quiet, at))) = inl (quiet.1, silent_as end ends.NoMemory at tt)
+begins_or_not t seed i i' a z end (Unloaded quiet is) = inl (quiet.1, quiet_keeper end is)
+begins_or_not t seed i i' a z end (Loaded None told (quiet, at)) = inl (quiet.1, quiet_as end ends.NoState at tt tt)
+begins_or_not t seed i i' a z end (Loaded (Some bytes) told (inl (quiet, at))) = inl (quiet.1, quiet_as end ends.NoMemory at tt tt)
 begins_or_not t seed i i' a z end (Loaded (Some bytes) told (inr acts)) = acts_in_begin t bytes seed i i' a z end (state_of bytes) told refl acts
 
 by_start : (s : Start) (seed : List ℕ) (i i' : Input) (a z : Scene) (end : ClientEnd) (F : KeptState → Type 0) (A : Todo → Type 0) → ((first : KeptState) → FirstOrNot first a z end → F first) → ((t : Todo) → BeginsOrNot t seed i i' a z end → A t)
     → Loads s seed (met i a) (met i' z) end → ByStart s F A
-by_start (Init first) seed i i' a z end F A begins acts (Unloaded quiet is) = begins first (inl (quiet.1, at_keeper end is))
+by_start (Init first) seed i i' a z end F A begins acts (Unloaded quiet is) = begins first (inl (quiet.1, quiet_keeper end is))
 by_start (Init first) seed i i' a z end F A begins acts (Loaded None told (unread, asked, b)) = begins first (inr (asked, b))
-by_start (Init first) seed i i' a z end F A begins acts (Loaded (Some bytes) told (quiet, at)) = begins first (inl (quiet.1, silent_as end ends.HasState at tt))
+by_start (Init first) seed i i' a z end F A begins acts (Loaded (Some bytes) told (quiet, at)) = begins first (inl (quiet.1, quiet_as end ends.HasState at tt tt))
 by_start (Act t) seed i i' a z end F A begins acts loads = acts t (begins_or_not t seed i i' a z end loads)
 
 -- what is true of each way that a call may go is true of the call
 pub by_words : (r : Result Line UsageFault) (seed : List ℕ) (i i' : Input) (a z : Scene) (end : ClientEnd) (F : KeptState → Type 0) (A : Todo → Type 0) (N : Type 0) → ((first : KeptState) → FirstOrNot first a z end → F first) → ((t : Todo) → BeginsOrNot t seed i i' a z end → A t)
     → (IsStill a z end → N) → Runs r seed (met i a) (met i' z) end → ByWords r F A N
 by_words (Ok line) seed i i' a z end F A N begins acts none loads = by_start (start_of line) seed i i' a z end F A begins acts loads
-by_words (Err f) seed i i' a z end F A N begins acts none (quiet, inl at) = none (quiet.1, silent_as end (ends.Usage f) at tt)
-by_words (Err f) seed i i' a z end F A N begins acts none (quiet, inr at) = none (quiet.1, silent_as end ends.NoMemory at tt)
+by_words (Err f) seed i i' a z end F A N begins acts none (quiet, inl at) = none (quiet.1, quiet_as end (ends.Usage f) at tt tt)
+by_words (Err f) seed i i' a z end F A N begins acts none (quiet, inr at) = none (quiet.1, quiet_as end ends.NoMemory at tt tt)
 
 -- ---- a command that was done
 

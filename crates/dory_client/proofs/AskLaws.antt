@@ -1,5 +1,5 @@
 -- Which frames were asked of each link in a call.
-use Rattle.std.proofs.Common.{◌≡◌, ℕ, zero, suc, List, [], ◌∷◌, ◌++◌, append_assoc, map, take, Option, None, Some, refl, ap, sym, ◌∙◌, subst, inl, inr}
+use Rattle.std.proofs.Common.{◌≡◌, ℕ, List, [], ◌∷◌, ◌++◌, append_assoc, map, Option, None, Some, refl, ap, sym, ◌∙◌, subst, inl, inr}
 use Rattle.dory_base.specs.declared.ids.Side.{Side}
 use Rattle.dory_base.specs.declared.ids.Side.TheVariants.{Lead, Follow}
 use Rattle.dory_wire.specs.declared.message.Request.{Request}
@@ -12,7 +12,7 @@ use Rattle.dory_member.specs.declared.phase.Run.{Run}
 use Rattle.dory_member.specs.Course.{Ask, Put, asked_of, asks, put_at, ask_request, took}
 use Rattle.dory_drive.specs.declared.broken.Broken.{Broken}
 use Rattle.dory_drive.specs.declared.broken.Broken.TheVariants as broken
-use Rattle.dory_drive.specs.Asked.{AskedFrames, request_frame, spoke}
+use Rattle.dory_drive.specs.Asked.{AskedFrames, GrewBy, Misses, request_frame, spoke, unspoken}
 use Rattle.dory_drive.specs.Course.{run_after as driven_run}
 use Rattle.dory_drive.specs.Driven.{AskFailed, Finished, FirstSaveFailed, LastSaveFailed, RanOut}
 use Rattle.dory_drive.specs.Member.{member_course, put_of}
@@ -87,24 +87,35 @@ none_part s frames z = record { first = []; are = refl; asked = asked_none (hear
 same_part : (s : Side) (frames : List (List ℕ)) (x y : Links) → heard_by s y ≡ heard_by s x → Part s frames x y frames
 same_part s frames x y same = record { first = []; are = refl; asked = same_asked (heard_by s x) (heard_by s y) same }
 
-tried_part : (n : ℕ) (f : List ℕ) (before now : Option (List Talk)) → AskedFrames before now (take n (f ∷ [])) → (rest : List (List ℕ)) × (first : List (List ℕ)) × (f ∷ [] ≡ first ++ rest) × AskedFrames before now first
-tried_part zero f before now asked = (f ∷ [], [], refl, asked)
-tried_part (suc zero) f before now asked = ([], f ∷ [], refl, asked)
-tried_part (suc (suc n)) f before now asked = ([], f ∷ [], refl, asked)
+-- what was tried of one frame: it was asked or it wasn't
+abbrev Tried : List ℕ → Option (List Talk) → Option (List Talk) → Type 0
+Tried f before now = (rest : List (List ℕ)) × (first : List (List ℕ)) × (f ∷ [] ≡ first ++ rest) × AskedFrames before now first
 
-stuck_part : (s t : Side) (r : Request) (m z : Links) → UnansweredOver t m z r → (rest : List (List ℕ)) × Part s (frames_to s ((t, r) ∷ [])) m z rest
-stuck_part Lead Lead r m z (u, same) =
-    let t = tried_part u.times (request_frame r) m.lead.exchanges z.lead.exchanges u.asked in
+tried_none : (r : Request) (before now : Option (List Talk)) (more : List Talk) → more ≡ [] → GrewBy before now more → Tried (request_frame r) before now
+tried_none r before now more is grew = (request_frame r ∷ [], [], refl, ([], subst (GrewBy before now) is grew, refl))
+
+tried_one : (r : Request) (before now : Option (List Talk)) (more : List Talk) → more ≡ unspoken r ∷ [] → GrewBy before now more → Tried (request_frame r) before now
+tried_one r before now more is grew = ([], request_frame r ∷ [], refl, (unspoken r ∷ [], subst (GrewBy before now) is grew, refl))
+
+tried_part : (b : Broken) (r : Request) (before now : Option (List Talk)) (more : List Talk) → Misses b r more → GrewBy before now more → Tried (request_frame r) before now
+tried_part (broken.LinkFault s) r before now more is grew = tried_one r before now more is grew
+tried_part broken.NoMemory r before now more (inl is) grew = tried_none r before now more is grew
+tried_part broken.NoMemory r before now more (inr is) grew = tried_one r before now more is grew
+tried_part broken.KeeperFault r before now more is grew = absurd is
+
+stuck_part : (s t : Side) (r : Request) (m z : Links) (b : Broken) → UnansweredOver t m z r b → (rest : List (List ℕ)) × Part s (frames_to s ((t, r) ∷ [])) m z rest
+stuck_part Lead Lead r m z b (u, same) =
+    let t = tried_part b r m.lead.exchanges z.lead.exchanges u.more u.misses u.grew in
     (t.0, record { first = t.1; are = t.2; asked = t.3 })
-stuck_part Lead Follow r m z (same, u) = ([], same_part Lead [] m z same)
-stuck_part Follow Lead r m z (u, same) = ([], same_part Follow [] m z same)
-stuck_part Follow Follow r m z (same, u) =
-    let t = tried_part u.times (request_frame r) m.follow.exchanges z.follow.exchanges u.asked in
+stuck_part Lead Follow r m z b (same, u) = ([], same_part Lead [] m z same)
+stuck_part Follow Lead r m z b (u, same) = ([], same_part Follow [] m z same)
+stuck_part Follow Follow r m z b (same, u) =
+    let t = tried_part b r m.follow.exchanges z.follow.exchanges u.more u.misses u.grew in
     (t.0, record { first = t.1; are = t.2; asked = t.3 })
 
 stuck_puts : (s : Side) (run : Run) (o : Option Ask) (m z : Links) (b : Broken) → PutUnanswered (put_of run o) m z b → (rest : List (List ℕ)) × Part s (frames_to s (put_at run o)) m z rest
 stuck_puts s run None m z b stuck = absurd stuck
-stuck_puts s run (Some ask) m z b stuck = stuck_part s ask.side (ask_request run ask) m z stuck.0
+stuck_puts s run (Some ask) m z b stuck = stuck_part s ask.side (ask_request run ask) m z b stuck.0
 
 -- ---- how a command goes on
 
@@ -155,7 +166,7 @@ goes_asks t seed i i' a z end k r begun goes = by goes
 -- ---- a whole call
 
 begun_asks : (t : Todo) (seed : List ℕ) (i i' : Input) (a z : Scene) (end : ClientEnd) → BeginsOrNot t seed i i' a z end → AsksInAll t seed (met i a) (met i' z) end
-begun_asks t seed i i' a z end (inl (u, quiet)) = Nothing u.asked quiet
+begun_asks t seed i i' a z end (inl (u, quiet)) = Nothing u.asked quiet.silent
 begun_asks t seed i i' a z end (inr (k, r, begun, goes)) = goes_asks t seed i i' a z end k r begun goes
 
 first_asks : (first : KeptState) (a z : Scene) (end : ClientEnd) → FirstOrNot first a z end → AskedNothing a z

@@ -1,6 +1,6 @@
 -- How a command may begin: with an update, with a search, with the two lengths, or at its end.
 use Rattle.std.specs.Prelude.{◌&&◌, if◌then◌else◌}
-use Rattle.std.proofs.Common.{◌≡◌, ℕ, Bool, true, false, List, Option, None, Some, Result, Ok, refl, subst}
+use Rattle.std.proofs.Common.{◌≡◌, ℕ, Bool, true, false, List, Option, None, Some, Result, Ok, Err, refl, subst}
 use Rattle.dory_base.specs.declared.entry.Entry.{Entry}
 use Rattle.dory_state.specs.declared.kept.KeptState.{KeptState}
 use Rattle.dory_state.specs.declared.kept.Pending.{Pending}
@@ -13,8 +13,10 @@ use Rattle.dory_member.specs.declared.outcome.Outcome.TheVariants.{NothingPendin
 use Rattle.dory_member.specs.declared.phase.Phase.TheVariants.{Updating, Measuring, Ended}
 use Rattle.dory_member.specs.declared.phase.Run.{Run}
 use Rattle.dory_member.specs.declared.phase.UpdateStep.TheVariants.{StageFollow}
-use Rattle.dory_member.specs.Course.{asking, begun, ended_with, if_finished, if_serial, posting, refused_if, removing, resumed}
+use Rattle.dory_member.specs.Course.{asking, begun, ended_with, id_of, if_finished, if_serial, posting, refused_if, removing, resumed}
+use Rattle.dory_client.specs.CallCauses.{IsOfNoAsk}
 use Rattle.dory_client.specs.CommandEnds.{IsGood}
+use Rattle.dory_client.specs.Ends.{fault_end}
 use Rattle.dory_member.specs.Draw.{epoch_in, is_last_epoch, is_last_serial, is_used_up, ready, turned}
 
 pub data Kind (k : KeptState) (seed : List ℕ) (c : Command) (run : Run) : Type 0 where
@@ -91,3 +93,40 @@ rotate_begins k seed run e =
 pub rest_begins : (k : KeptState) (seed : List ℕ) (p : Option Pending) (run : Run) → p ≡ None → resumed k seed p ≡ Ok run → (o : Outcome) × IsGood o × (run.phase ≡ Ended o)
 rest_begins k seed None run none e = (NothingPending, (λ f is. cc), cc)
 rest_begins k seed (Some p) run none e = absurd (cc)
+
+-- ---- refusals
+
+abbrev refusal : Fault → Result Run Fault
+refusal f = Err f
+
+refused_or : (b : Bool) (g f : Fault) (r : Result Run Fault) → IsOfNoAsk (fault_end g) → (r ≡ refusal f → IsOfNoAsk (fault_end f)) → refused_if b g r ≡ refusal f → IsOfNoAsk (fault_end f)
+refused_or true g f r none later e = let same : g ≡ f = cc in subst (λ (x : Fault). IsOfNoAsk (fault_end x)) same none
+refused_or false g f r none later e = later e
+
+begun_not : (run : Run) (f : Fault) → ok_run run ≡ refusal f → IsOfNoAsk (fault_end f)
+begun_not run f e = absurd (cc)
+
+unfinished_or : (k : KeptState) (p : Option Pending) (f : Fault) (r : Result Run Fault) → (r ≡ refusal f → IsOfNoAsk (fault_end f)) → if_finished k p r ≡ refusal f → IsOfNoAsk (fault_end f)
+unfinished_or k (Some p) f r later e = let same : fault.Unfinished (id_of k p) ≡ f = cc in subst (λ (x : Fault). IsOfNoAsk (fault_end x)) same tt
+unfinished_or k None f r later e = later e
+
+serial_or : (k : KeptState) (f : Fault) (r : Result Run Fault) → (r ≡ refusal f → IsOfNoAsk (fault_end f)) → if_serial k r ≡ refusal f → IsOfNoAsk (fault_end f)
+serial_or k f r later e = refused_or (is_last_serial k) fault.SerialEnd f r tt later e
+
+resume_refused : (k : KeptState) (seed : List ℕ) (p : Option Pending) (f : Fault) → resumed k seed p ≡ refusal f → IsOfNoAsk (fault_end f)
+resume_refused k seed None f e = begun_not _ f e
+resume_refused k seed (Some p) f e = serial_or k f _ (begun_not _ f) e
+
+-- a command is refused by a fault that comes of no ask
+pub refused_no_ask : (k : KeptState) (seed : List ℕ) (c : Command) (f : Fault) → begun k seed c ≡ Err f → IsOfNoAsk (fault_end f)
+refused_no_ask k seed (command.Post doc row) f e =
+    let made : Result Run Fault = Ok (posting (ready k) seed doc row) in
+    let unless_spent : Result Run Fault = refused_if (is_used_up k && is_last_epoch k) fault.EpochEnd made in
+    unfinished_or k k.pending f (if_serial k unless_spent) (serial_or k f unless_spent (refused_or (is_used_up k && is_last_epoch k) fault.EpochEnd f made tt (begun_not (posting (ready k) seed doc row) f))) e
+refused_no_ask k seed (command.Remove doc) f e =
+    let made : Result Run Fault = Ok (removing k seed doc) in
+    unfinished_or k k.pending f (if_serial k made) (serial_or k f made (begun_not (removing k seed doc) f)) e
+refused_no_ask k seed (command.Search word) f e = serial_or k f _ (begun_not _ f) e
+refused_no_ask k seed command.Resume f e = resume_refused k seed k.pending f e
+refused_no_ask k seed command.Latest f e = serial_or k f _ (begun_not _ f) e
+refused_no_ask k seed command.Rotate f e = refused_or (is_last_epoch k) fault.EpochEnd f _ tt (begun_not _ f) e

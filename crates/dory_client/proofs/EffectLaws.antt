@@ -168,7 +168,7 @@ pub record DidWell (t : Todo) (seed : List ℕ) (i i' : Input) (a z : Scene) : T
   pub came : CameWell run a z
 
 did : (t : Todo) (seed : List ℕ) (i i' : Input) (a z : Scene) → BeginsOrNot t seed i i' a z ends.Done → DidWell t seed i i' a z
-did t seed i i' a z (inl (u, quiet)) = absurd quiet
+did t seed i i' a z (inl (u, quiet)) = absurd quiet.silent
 did t seed i i' a z (inr (k, r, begun, goes)) = record { k = k; run = r; begins = begun; came = came_well r a z goes }
 
 acts : (t : Todo) (seed : List ℕ) (i i' : Input) (a z : Scene) → BeginsOrNot t seed i i' a z ends.Done → (k : KeptState) × (run : Run) × IsBegun t seed (met i a) (met i' z) k run × IsDone k run a z
@@ -181,7 +181,7 @@ acts t seed i i' a z begun =
 -- words that were done
 pub does : (words : List (List ℕ)) (seed : List ℕ) (i i' : Input) (a z : Scene) → IsRun words seed (met i a) (met i' z) ends.Done → CallEffects words seed (met i a) (met i' z)
 does words seed i i' a z run =
-    by_words (read_of words) seed i i' a z ends.Done (λ first. ⊤) (λ t. (k : KeptState) × (r : Run) × IsBegun t seed (met i a) (met i' z) k r × IsDone k r a z) ⊥ (λ first so. tt) (λ t. acts t seed i i' a z) (λ still. still.1) run
+    by_words (read_of words) seed i i' a z ends.Done (λ first. ⊤) (λ t. (k : KeptState) × (r : Run) × IsBegun t seed (met i a) (met i' z) k r × IsDone k r a z) ⊥ (λ first so. tt) (λ t. acts t seed i i' a z) (λ still. still.1.silent) run
 
 -- a search that was accepted
 pub accepted : (words : List (List ℕ)) (seed : List ℕ) (i i' : Input) (a z : Scene) → IsRun words seed (met i a) (met i' z) ends.Done → IsAccepted words seed a z

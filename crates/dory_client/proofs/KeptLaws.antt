@@ -86,11 +86,11 @@ goes_leaves t seed i i' a z end k r begun goes = by goes
 -- ---- a whole call
 
 begun_leaves : (t : Todo) (seed : List ℕ) (i i' : Input) (a z : Scene) (end : ClientEnd) → BeginsOrNot t seed i i' a z end → KeptAfter t seed (met i a) (met i' z) end
-begun_leaves t seed i i' a z end (inl (u, quiet)) = Old u.asked u.kept (undone end quiet)
+begun_leaves t seed i i' a z end (inl (u, quiet)) = Old u.asked u.kept (undone end quiet.silent)
 begun_leaves t seed i i' a z end (inr (k, r, begun, goes)) = goes_leaves t seed i i' a z end k r begun goes
 
 first_leaves : (first : KeptState) (a z : Scene) (end : ClientEnd) → FirstOrNot first a z end → BeginningKept first a z end
-first_leaves first a z end (inl (u, quiet)) = record { asked = u.asked; kept = inl u.kept; done = λ e. absurd (undone end quiet e) }
+first_leaves first a z end (inl (u, quiet)) = record { asked = u.asked; kept = inl u.kept; done = λ e. absurd (undone end quiet.silent e) }
 first_leaves first a z end (inr (asked, Unsaved kept stays is)) = record { asked = asked; kept = kept; done = λ e. absurd (undone end (at_keeper end is) e) }
 first_leaves first a z end (inr (asked, Saved now says)) = record { asked = asked; kept = inr now; done = λ e. now }
 
@@ -98,4 +98,4 @@ first_leaves first a z end (inr (asked, Saved now says)) = record { asked = aske
 pub leaves : (words : List (List ℕ)) (seed : List ℕ) (i i' : Input) (a z : Scene) (end : ClientEnd) → IsRun words seed (met i a) (met i' z) end → CallKeeps words seed (met i a) (met i' z) end
 leaves words seed i i' a z end run =
     by_words (line_of words) seed i i' a z end (λ first. BeginningKept first a z end) (λ t. KeptAfter t seed (met i a) (met i' z) end) (Unchanged a z end) (λ first. first_leaves first a z end) (λ t. begun_leaves t seed i i' a z end)
-    (λ still. record { asked = still.0.asked; kept = still.0.kept; undone = undone end still.1 }) run
+    (λ still. record { asked = still.0.asked; kept = still.0.kept; undone = undone end still.1.silent }) run

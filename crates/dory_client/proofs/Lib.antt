@@ -20,3 +20,4 @@ pub mod Endings
 pub mod KeptLaws
 pub mod PrintLaws
 pub mod AskLaws
+pub mod CauseLaws

@@ -39,11 +39,11 @@ going r a z end (CommandFailed f comes w e) = silent (kind_of end) a.written z.w
 going r a z end (CommandTold o good comes says) = saying a.written z.written (text_of_outcome o) end says
 
 begun : (t : Todo) (seed : List ℕ) (i i' : Input) (a z : Scene) (end : ClientEnd) → BeginsOrNot t seed i i' a z end → CallPrints end a.written z.written
-begun t seed i i' a z end (inl (u, quiet)) = silent (kind_of end) a.written z.written quiet u.wrote
+begun t seed i i' a z end (inl (u, quiet)) = silent (kind_of end) a.written z.written quiet.silent u.wrote
 begun t seed i i' a z end (inr (k, r, b, goes)) = going r a z end goes
 
 first : (k : KeptState) (a z : Scene) (end : ClientEnd) → FirstOrNot k a z end → CallPrints end a.written z.written
-first k a z end (inl (u, quiet)) = silent (kind_of end) a.written z.written quiet u.wrote
+first k a z end (inl (u, quiet)) = silent (kind_of end) a.written z.written quiet.silent u.wrote
 first k a z end (inr (asked, Unsaved kept w is)) = silent (kind_of end) a.written z.written (at_keeper end is) w
 first k a z end (inr (asked, Saved kept says)) = saying a.written z.written (codes "ready") end says
 
@@ -60,4 +60,4 @@ pub writes : (words : List (List ℕ)) (seed : List ℕ) (i i' : Input) (a z : S
 writes words seed i i' a z end run =
     any (line_of words) (CallPrints end a.written z.written)
     (by_words (line_of words) seed i i' a z end (λ k. CallPrints end a.written z.written) (λ t. CallPrints end a.written z.written) (CallPrints end a.written z.written) (λ k. first k a z end) (λ t. begun t seed i i' a z end)
-    (λ still. silent (kind_of end) a.written z.written still.1 still.0.wrote) run)
+    (λ still. silent (kind_of end) a.written z.written still.1.silent still.0.wrote) run)

@@ -5,6 +5,7 @@ use Rattle.dory_drive.specs.Scene.{Caused}
 use Rattle.dory_client.specs.declared.end.ClientEnd.{ClientEnd}
 use Rattle.dory_client.specs.declared.end.ClientEnd.TheVariants.{Done, InputFault, InputLong}
 use Rattle.dory_client.specs.CallAsks.{CallAsks}
+use Rattle.dory_client.specs.CallCauses.{CallCauses}
 use Rattle.dory_client.specs.CallEffects.{CallEffects}
 use Rattle.dory_client.specs.CallEnds.{CallEnds}
 use Rattle.dory_client.specs.CallPrints.{CallPrints}
@@ -32,6 +33,10 @@ pub record IsCall (words : List (List ℕ)) (seed : List ℕ) (before after : Mo
   pub does : end ≡ Done → CallEffects words seed before after
   -- What is asked: the frames of the command's requests, each of its side's link, or the first of them where it broke off.
   pub asked : CallAsks words seed before after end
+  -- By what it ends, over two links that tell their exchanges: by a failed check, as unconfirmed or as diverged exactly
+  -- where that is the first fault of the replies that came, and by a link's fault exactly where its last ask has no reply,
+  -- unless memory runs out.
+  pub judged : CallCauses words seed before after end
   -- What is kept: the finished state where the call is done, and at any other end the old one, where neither domain was
   -- asked, the one saved before the first ask, or the finished one. None of them has seen less than the old one.
   pub leaves : CallKeeps words seed before after end

@@ -16,5 +16,6 @@ pub mod Complete
 pub mod KeptAfter
 pub mod CallPrints
 pub mod CallAsks
+pub mod CallCauses
 pub mod CallEnds
 pub mod Call

@@ -35,7 +35,7 @@ answered : {R O : Type 0} (c : Course R O) (run came : R) (side : Side) (sent fr
 answered c run came side sent frame b z here p over =
     subst (λ (o : Option Put). PutAnswered o b z frame) (sym p.asks ∙ ap c.asks here) over
 
-unanswered : {R O : Type 0} (c : Course R O) (run came : R) (side : Side) (sent : List ℕ) (end : Broken) (b z : Links) → run ≡ came → (p : IsAsk c run side sent) → UnansweredOver side b z p.request → IsAskEnd side end → PutUnanswered (c.asks came) b z end
+unanswered : {R O : Type 0} (c : Course R O) (run came : R) (side : Side) (sent : List ℕ) (end : Broken) (b z : Links) → run ≡ came → (p : IsAsk c run side sent) → UnansweredOver side b z p.request end → IsAskEnd side end → PutUnanswered (c.asks came) b z end
 unanswered c run came side sent end b z here p over is =
     subst (λ (o : Option Put). PutUnanswered o b z end) (sym p.asks ∙ ap c.asks here) (over, is)
 
@@ -57,7 +57,7 @@ goes_further {R = R} c law began run run' u u' a b z side sent frame g p over ta
     }
 
 -- a run that asks, and no frame comes
-pub breaks : {R O : Type 0} (c : Course R O) → IsCourse c → (began run : R) (u : Bool) (a b z : Links) (side : Side) (sent : List ℕ) (end : Broken) → WentOn c began a b run u → (p : IsAsk c run side sent) → UnansweredOver side b z p.request → IsAskEnd side end → InterruptedAfter c began a z end
+pub breaks : {R O : Type 0} (c : Course R O) → IsCourse c → (began run : R) (u : Bool) (a b z : Links) (side : Side) (sent : List ℕ) (end : Broken) → WentOn c began a b run u → (p : IsAsk c run side sent) → UnansweredOver side b z p.request end → IsAskEnd side end → InterruptedAfter c began a z end
 breaks c law began run u a b z side sent end g p over is = by g.stands
   where
     by : StandsAt c began run u g.frames ⊎ (RanOutAt c began run g.frames × (u ≡ false)) → InterruptedAfter c began a z end

@@ -1,11 +1,13 @@
 -- One ask, as the links tell it.
-use Rattle.std.specs.Prelude.{ℕ, ◌≡◌, ◌<◌, ⊤, List, [], ◌∷◌, ◌++◌, slice_index, map, take, Option, Some, None}
+use Rattle.std.specs.Prelude.{ℕ, ◌≡◌, ◌<◌, ◌⊎◌, ⊤, List, [], ◌∷◌, ◌++◌, slice_index, map, Option, Some, None}
 use Rattle.dory_wire.specs.declared.message.Request.{Request}
 use Rattle.dory_wire.specs.declared.message.What.{What}
 use Rattle.dory_wire.specs.Frame.{frame_of}
 use Rattle.dory_wire.specs.Reading.{reply_in}
 use Rattle.dory_wire.specs.Spelling.{IsRequest, spelling_of_request}
 use Rattle.dory_link.specs.Told.{Told, Talk, talk, Heard, Grows, IsFolderReply}
+use Rattle.dory_drive.specs.declared.broken.Broken.{Broken}
+use Rattle.dory_drive.specs.declared.broken.Broken.TheVariants.{KeeperFault, LinkFault, NoMemory}
 
 -- the frame of a request
 abbrev pub request_frame : Request → List ℕ
@@ -56,8 +58,20 @@ pub record FrameCame (before after : Heard) (request : Request) (frame : List �
   pub asked : Exchanged asking answered request frame
   pub later : Grew answered after
 
--- a request was asked or not, and no frame came
-pub record Unanswered (before now : Heard) (request : Request) : Type 0 where
-  pub times : ℕ
-  pub asked : AskedFrames before.exchanges now.exchanges (take times (request_frame request ∷ []))
+-- a request and no frame that came to it
+abbrev pub unspoken : Request → Talk
+unspoken request = talk (request_frame request) None
+
+-- what an ask that brought no frame adds to the exchanges: the request without a reply where the link failed, and that or
+-- nothing where memory ran out
+abbrev pub Misses : Broken → Request → List Talk → Type 0
+Misses (LinkFault side) request more = more ≡ unspoken request ∷ []
+Misses NoMemory request more = (more ≡ []) ⊎ (more ≡ unspoken request ∷ [])
+Misses KeeperFault request more = ⊥
+
+-- a request was asked or not, no frame came, and this is why
+pub record Unanswered (before now : Heard) (request : Request) (end : Broken) : Type 0 where
+  pub more : List Talk
+  pub misses : Misses end request more
+  pub grew : GrewBy before.exchanges now.exchanges more
   pub grown : Grows before.folders now.folders

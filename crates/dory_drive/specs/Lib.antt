@@ -3,6 +3,7 @@ pub mod Asked
 pub mod Course
 pub mod Ends
 pub mod Way
+pub mod Received
 pub mod Kept
 pub mod Driven
 pub mod Member

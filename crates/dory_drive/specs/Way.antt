@@ -34,10 +34,10 @@ abbrev pub ExchangedOver : Side → Links → Links → Request → List ℕ →
 ExchangedOver Lead before after request frame = Exchanged before.lead after.lead request frame × (after.follow ≡ before.follow)
 ExchangedOver Follow before after request frame = (after.lead ≡ before.lead) × Exchanged before.follow after.follow request frame
 
--- a request was put to the domain of this side or not, and no frame came
-abbrev pub UnansweredOver : Side → Links → Links → Request → Type 0
-UnansweredOver Lead before after request = Unanswered before.lead after.lead request × (after.follow ≡ before.follow)
-UnansweredOver Follow before after request = (after.lead ≡ before.lead) × Unanswered before.follow after.follow request
+-- a request was put to the domain of this side or not, no frame came, and this is why
+abbrev pub UnansweredOver : Side → Links → Links → Request → Broken → Type 0
+UnansweredOver Lead before after request end = Unanswered before.lead after.lead request end × (after.follow ≡ before.follow)
+UnansweredOver Follow before after request end = (after.lead ≡ before.lead) × Unanswered before.follow after.follow request end
 
 -- what is asked was put, and this frame came
 abbrev pub PutAnswered : Option Put → Links → Links → List ℕ → Type 0
@@ -47,7 +47,7 @@ PutAnswered (Some put) before after frame = ExchangedOver put.0 before after put
 -- what is asked was put or not, no frame came, and the conversation broke off so
 abbrev pub PutUnanswered : Option Put → Links → Links → Broken → Type 0
 PutUnanswered None before after end = ⊥
-PutUnanswered (Some put) before after end = UnansweredOver put.0 before after put.1 × IsAskEnd put.0 end
+PutUnanswered (Some put) before after end = UnansweredOver put.0 before after put.1 end × IsAskEnd put.0 end
 
 -- These frames came to a run, one after another, each to what it asked.
 abbrev pub ExchangedInTurn : {Run Outcome : Type 0} → Course Run Outcome → Run → List (List ℕ) → Links → Links → Type 0

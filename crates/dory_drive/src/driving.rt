@@ -1,5 +1,5 @@
 //! A conversation from its beginning to its end: its first save, its asks and its last save.
-ghost use Rattle.std.specs.Prelude.{◌≡◌, ◌<◌, ℕ, None, false, slice_index, IfErr, IfOk, IsErrOf, OnErr, OnOk};
+ghost use Rattle.std.specs.Prelude.{◌≡◌, ◌<◌, ℕ, None, false, slice_index, IfErr, IfOk, IsErrOf, OnOk};
 ghost use Rattle.dory_base.specs.declared.ids.Side.TheVariants as sides;
 ghost use Rattle.dory_io.specs.Causes.{HasCause};
 ghost use Rattle.dory_wire.specs.declared.message.Request.{Request};
@@ -39,7 +39,7 @@ fn ask<W: Outside>(
     ensures asked { (request : Request) → IsFrameOf request frame.now
         → IfOk result (λ came. ExchangedOver side (scene_links (W.scene outside.old)) (scene_links (W.scene outside.new)) request came.items) }
     ensures unanswered { (request : Request) → IsFrameOf request frame.now
-        → OnErr result (UnansweredOver side (scene_links (W.scene outside.old)) (scene_links (W.scene outside.new)) request) }
+        → IfErr result (UnansweredOver side (scene_links (W.scene outside.old)) (scene_links (W.scene outside.new)) request) }
     ensures cause { HasCause (link_faults side (W.scene outside.old)) (link_faults side (W.scene outside.new)) (IsErrOf result (Broken.LinkFault side)) }
     ensures ends { IfErr result (IsAskEnd side) }
 {

@@ -72,6 +72,8 @@ fn a_post_whose_ask_is_lost_is_resumed(rt: HostRuntime) -> Result<(), Fail> {
         let (mut folder, came) = post_over(alloc, RowKernel::new(lane_parity), lead, follow)?;
         assert!(rt; came.end == (ClientEnd::LinkFault { side }) && came.out.bytes().is_empty());
         assert!(rt; says(alloc, &mut folder, "resume", b"", b"posted 7 at 1\n")?);
+        let both = b"lead 1 follow 1 seen 1\n";
+        assert!(rt; says(alloc, &mut folder, "latest", b"", both)?);
     }
     Ok(())
 }
@@ -142,7 +144,7 @@ fn is_kept(alloc: Global, bytes: &[u8], kept: (u64, u32, u32, bool)) -> Result<b
     Ok(bytes.len() > at && &bytes[..at] == front && (bytes[at] != 0) == pending)
 }
 
-/// Whether a command that begins with these bytes kept ends as the case says.
+/// Whether a command that begins with these bytes kept ends as the case says, and has written nothing.
 fn ends_so(
     alloc: Global,
     folder: &mut Folder,
@@ -157,7 +159,8 @@ fn ends_so(
     let Ok(Some(bytes)) = folder.keeper.load(alloc) else {
         return Ok(false);
     };
-    Ok(came.end == case.end && is_kept(alloc, &bytes, case.kept)?)
+    let silent = came.out.bytes().is_empty();
+    Ok(came.end == case.end && silent && is_kept(alloc, &bytes, case.kept)?)
 }
 
 /// A command's link that fails.

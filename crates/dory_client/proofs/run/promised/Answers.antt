@@ -2,6 +2,7 @@ use Rattle.std.proofs.Common.{map, string_bytes}
 use Rattle.dory_client.proofs.Endings.{ends_so, complete}
 use Rattle.dory_client.proofs.EffectLaws.{accepted, does}
 use Rattle.dory_client.proofs.AskLaws.{puts}
+use Rattle.dory_client.proofs.CauseLaws.{judges}
 use Rattle.dory_client.proofs.KeptLaws.{leaves}
 use Rattle.dory_client.proofs.PrintLaws.{writes}
 use Rattle.dory_client.proofs.run.promised.Goals as goal
@@ -18,6 +19,7 @@ returns-clause-call g c =
       accepted = λ is. accepted words c.args.seed _ _ _ _ (rw is at ran);
       does = λ is. does words c.args.seed _ _ _ _ (rw is at ran);
       asked = puts words c.args.seed _ _ _ _ c.run_words.result ran;
+      judged = judges words c.args.seed _ _ _ _ c.run_words.result ran;
       leaves = leaves words c.args.seed _ _ _ _ c.run_words.result ran;
       wrote = writes words c.args.seed _ _ _ _ c.run_words.result ran;
       complete = complete words c.args.seed _ _ _ _ c.run_words.result ran;
