@@ -15,6 +15,6 @@ returns-in_ok-keep-in-Ok-2-clause-failed g c =
     let call = c.count_call-listed.new.self.calls in
     let named : is_listed c.args.self.now.lost.items call ≡ true → is_listed c.deref.result.now call ≡ true = λ lost. ap (λ (xs : List ℕ). is_listed xs call) c.deref.ensures.value ∙ lost in
     none_of
-      (λ listed. search rules)
-      (λ lost. true≢false (sym (named (ap (λ (f : Fails). is_listed c.args.self.now.lost.items f.calls) c.count_call-listed.ensures.calls ∙ lost)) ∙ sym c.contains-lost.ensures.value ∙ c.if-lost.false))
-      (λ unread. search rules)
+    (λ listed. search rules)
+    (λ lost. true≢false (sym (named (ap (λ (f : Fails). is_listed c.args.self.now.lost.items f.calls) c.count_call-listed.ensures.calls ∙ lost)) ∙ sym c.contains-lost.ensures.value ∙ c.if-lost.false))
+    (λ unread. search rules)
