@@ -1,27 +1,10 @@
--- What a port's connections were served by.
-use Rattle.std.proofs.Common.{◌≡◌, ℕ, List, Option, Result, Ok, subst}
-use Rattle.dory_io.specs.Causes.{HasCause}
-use Rattle.dory_domain.specs.Answered.{IsAnswered}
-use Rattle.dory_domain.specs.Held.{Held}
-use Rattle.dory_net.specs.Serving.{Connection, IsServing}
-use Rattle.dory_net.specs.declared.serving.ServeEnd.{ServeEnd}
-use Rattle.dory_net.specs.declared.serving.ServeEnd.TheVariants as port
-use Rattle.dory_server.specs.declared.line.ServerLine.{ServerLine}
-use Rattle.dory_server.specs.declared.line.ServerWords.{ServerWords}
-use Rattle.dory_server.specs.Served.{Counting, ServedBy, begun_folders}
+-- Lanes whose seats are at a domain, as lanes of what their seats have seen.
+use Rattle.std.proofs.Common.{◌≡◌, ◌<◌, ◌+◌, ℕ, zero, suc, List, [], ◌∷◌, All, map, length, slice_index_or, Option, Result, Ok, refl, sym, subst, ap, ◌∙◌, arith}
+use Rattle.std.specs.List.{AllZip}
 
-pub served_by : {Door From To : Type 0} (counting : Counting Door From To) (read : Result ServerLine ServerWords) (line : ServerLine) (folders now : List Held) (asked : Option ℕ) (end : ServeEnd) (before after : Door) → read ≡ Ok line → folders ≡ begun_folders line → (cs : List (Connection From To)) × IsServing IsAnswered counting.tell folders now (counting.given before) (counting.given after) asked end cs → HasCause (counting.faults before) (counting.faults after) (end ≡ port.AcceptFault) → ServedBy counting read asked end
-served_by counting read line folders now asked end before after is at (cs, served) cause = (
-  line,
-  is,
-  (
-    now,
-    before,
-    after,
-    cs,
-    record {
-      served = subst (λ (f : List Held). IsServing IsAnswered counting.tell f now (counting.given before) (counting.given after) asked end cs) at served;
-      cause = cause;
-    },
-  ),
-)
+-- what holds of what two lists have at each place holds of the lists
+pub zipped : {A B : Type 0} (f : A → B) (R : B → B → Type 0) (xs ys : List A) → length ys ≡ length xs → ((i : ℕ) (d : A) → i < length xs → R (f (slice_index_or xs i d)) (f (slice_index_or ys i d))) → AllZip R (map f xs) (map f ys)
+zipped f R [] [] len each = tt
+zipped f R [] (y ∷ ys) len each = absurd (omega (arith, len))
+zipped f R (x ∷ xs) [] len each = absurd (omega (arith, len))
+zipped f R (x ∷ xs) (y ∷ ys) len each = (each 0 x (omega arith), zipped f R xs ys (omega (arith, len)) (λ i d h. each (suc i) d (omega (arith, h))))
