@@ -1,5 +1,5 @@
 //! Whether as many threads can be made as lanes want. Where one can't, lanes would wait for others to end.
-ghost use Rattle.std.specs.Prelude.{◌≡◌, ℕ, IsErr, IsTrue};
+ghost use Rattle.std.specs.Prelude.{◌≡◌, ℕ, IfOk, IsErr, IsOk, IsTrue};
 ghost use Rattle.dory_io.specs.Causes.{HasCause, is_next_listed};
 
 use dory_io::{Failed, Fails};
@@ -9,10 +9,14 @@ use std::thread::Threads;
 
 /// Tries threads before they are needed, and counts its failures.
 pub trait ThreadMaker {
+    /// How many it made at once, when it last made as many as it was asked for.
+    ghost made: { Self → ℕ };
+
     ghost faults: { Self → ℕ };
 
     /// Makes so many threads, all at once, and lets them end.
     fn try_threads<R: Threads + Wait + Sync>(&mut self, rt: &R, many: u32) -> Result<(), Failed>
+        ensures made { IfOk result (λ _. made self.new ≡ many) }
         ensures cause { HasCause (faults self.old) (faults self.new) (IsErr result) };
 }
 
@@ -25,44 +29,45 @@ fn all_start<R: Threads + Wait + Sync>(rt: &R, many: u32) -> bool
     }
     let gate = Mutex::new(());
     let gate = &gate;
-    thread::scope(
-        thread::scope_env(),
-        rt,
-        move |scope| -> bool {
-            let shut = gate.lock(rt);
-            let mut all = true;
-            for _ in 0..many {
-                all = scope.spawn(move || drop(gate.lock(rt))).is_ok() && all;
-            }
-            drop(shut);
-            all
-        },
-    )
+    thread::scope(thread::scope_env(), rt, move |scope| -> bool {
+        let shut = gate.lock(rt);
+        let mut all = true;
+        for _ in 0..many {
+            all = scope.spawn(move || drop(gate.lock(rt))).is_ok() && all;
+        }
+        drop(shut);
+        all
+    })
 }
 
 /// Asks the system itself.
 #[derive(Debug, Drop)]
 pub struct SystemThreads {
+    made: u32,
     faults: u64,
 }
 
 impl SystemThreads {
     pub fn new() -> SystemThreads
-        ensures { result.faults ≡ 0 }
+        ensures { result ≡ record { made = 0; faults = 0 } }
     {
-        SystemThreads { faults: 0 }
+        SystemThreads { made: 0, faults: 0 }
     }
 }
 
 impl ThreadMaker for SystemThreads {
+    ghost made = { λ t. t.made };
+
     ghost faults = { λ t. t.faults };
 
     fn try_threads<R: Threads + Wait + Sync>(&mut self, rt: &R, many: u32) -> Result<(), Failed>
+        ensures made { IfOk result (λ _. self.new.made ≡ many) }
         ensures cause { HasCause self.old.faults self.new.faults (IsErr result) }
-        // That no thread can be made is no fault where none is wanted.
-        ensures none { many ≡ 0 → result ≡ Ok () }
+        // Where none is wanted it is no fault that none can be made.
+        ensures none { many ≡ 0 → IsOk result }
     {
         if all_start(rt, many) {
+            self.made = many;
             Ok(())
         } else {
             self.faults = self.faults.saturating_add(1);
@@ -91,9 +96,12 @@ impl FailingThreads {
 }
 
 impl ThreadMaker for FailingThreads {
+    ghost made = { λ t. t.inner.made };
+
     ghost faults = { λ t. t.fails.faults };
 
     fn try_threads<R: Threads + Wait + Sync>(&mut self, rt: &R, many: u32) -> Result<(), Failed>
+        ensures made { IfOk result (λ _. self.new.inner.made ≡ many) }
         ensures cause { HasCause self.old.fails.faults self.new.fails.faults (IsErr result) }
         ensures listed { IsTrue (is_next_listed self.old.fails) → IsErr result }
     {

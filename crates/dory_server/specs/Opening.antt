@@ -1,5 +1,5 @@
 -- How a server opens: what its words decide, and the line that says where it is found.
-use Rattle.std.specs.Prelude.{ℕ, ◌≡◌, ◌⊎◌, ⊤, All, List, [], ◌++◌, length, codes, Option, Some, None, option_map, Result, Ok, Err}
+use Rattle.std.specs.Prelude.{ℕ, ◌≡◌, ◌-◌, ◌⊎◌, ⊤, All, List, [], ◌++◌, length, codes, Option, Some, None, option_map, Result, Ok, Err}
 use Rattle.std.specs.Io.KnownBytes.{Appends}
 use Rattle.dory_io.specs.Bytes.{Tells}
 use Rattle.dory_io.specs.Given.{IsBoundFor}
@@ -56,15 +56,33 @@ Wrote read bound before now AcceptFault = OfBound read bound (λ address. Append
 Wrote read bound before now NoMemory = Appends before now []
 
 -- What stands open: the line's folders, each with no update, as many seats as it says, each of which has seen just that, and the
--- address that was bound for the one in the line. Neither the words nor the configuration have a fault.
-pub record IsOpen (read : Result ServerLine ServerWords) (bound : Option Address) (opened : List Seen) (seats : List (List Seen)) (address : Address) : Type 0 where
+-- address that was bound for the one in the line. Neither the words nor the configuration have a fault, and as many threads were
+-- made at once as the seats need beside the one that there is.
+pub record IsOpen (read : Result ServerLine ServerWords) (made : ℕ) (bound : Option Address) (opened : List Seen) (seats : List (List Seen)) (address : Address) : Type 0 where
   pub line : ServerLine
   pub reads : read ≡ Ok line
   pub right : fault_of read ≡ None
   pub folders : AreOpened line.config.role line.config.folders opened
   pub same : All (λ s. s ≡ opened) seats
   pub many : length seats ≡ line.config.seats
+  pub tried : made ≡ line.config.seats - 1
   pub found : IsBoundFor line.address address × Tells bound address
+
+-- as many threads were made at once as the line's seats need beside the one that there is
+abbrev pub TriedFor : Result ServerLine ServerWords → ℕ → Type 0
+TriedFor read made = (line : ServerLine) × (read ≡ Ok line) × (made ≡ line.config.seats - 1)
+
+-- they were before anything was written
+abbrev pub Tried : Result ServerLine ServerWords → ℕ → ServerEnd → Type 0
+Tried read made (Usage at) = ⊤
+Tried read made (BadConfig fault) = ⊤
+Tried read made PlaceRefused = ⊤
+Tried read made NoThreads = ⊤
+Tried read made BindFault = ⊤
+Tried read made OutputFault = TriedFor read made
+Tried read made Sessions = TriedFor read made
+Tried read made AcceptFault = TriedFor read made
+Tried read made NoMemory = ⊤
 
 -- the line was written, or a first part of it where the sink failed, or nothing where memory ran out
 abbrev pub SaysReady : Address → Option (List ℕ) → Option (List ℕ) → Result (Unit {0}) ServerEnd → Type 0

@@ -1,5 +1,5 @@
 //! A server opens: its words are read, its domain is opened, threads are tried, and its address is bound.
-ghost use Rattle.std.specs.Prelude.{◌≡◌, ◌⊎◌, All, IfErr, IfOk, None, Ok, length, map, string_bytes, IsErr, IsErrOf};
+ghost use Rattle.std.specs.Prelude.{◌≡◌, ◌-◌, ◌⊎◌, All, IfErr, IfOk, None, Ok, length, map, string_bytes, IsErr, IsErrOf};
 ghost use Rattle.dory_io.specs.Causes.{HasCause};
 ghost use Rattle.dory_domain.specs.Setup.{setup_fault};
 ghost use Rattle.dory_shared.specs.Opening.{AreOpened};
@@ -62,6 +62,7 @@ fn try_threads<R: Threads + Wait + Sync, T: ThreadMaker>(
     threads: &mut T,
     seats: u32,
 ) -> Result<(), ServerEnd>
+    ensures made { IfOk result (λ _. T.made threads.new ≡ seats - 1) }
     ensures only { IfErr result (λ end. end ≡ ServerEnd.NoThreads) }
     ensures cause { HasCause (T.faults threads.old) (T.faults threads.new) (IsErrOf result ServerEnd.NoThreads) }
 {
@@ -81,7 +82,7 @@ pub fn server_open<'a, R: Threads + Wait + Sync, M: PlaceMaker, T: ThreadMaker, 
     threads: &mut T,
     binder: &mut B,
 ) -> Result<(Opened<'a, R>, Vec<Seat>, Address), ServerEnd>
-    ensures open { IfOk result (λ t. IsOpen (server_line_of (map string_bytes words.now)) (B.bound binder.new) t.0 t.1.items t.2) }
+    ensures open { IfOk result (λ t. IsOpen (server_line_of (map string_bytes words.now)) (T.made threads.new) (B.bound binder.new) t.0 t.1.items t.2) }
     // Faulty words come first and a faulty configuration second, exactly.
     ensures fault { IfErr result (OpensBy (fault_of (server_line_of (map string_bytes words.now)))) }
     ensures only { IfErr result EndsUnbound }

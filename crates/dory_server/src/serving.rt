@@ -3,7 +3,7 @@ ghost use Rattle.std.specs.Prelude.{◌≡◌, ◌⊎◌, All, IfErr, IfOk, leng
 ghost use Rattle.dory_io.specs.Causes.{HasCause};
 ghost use Rattle.dory_shared.specs.Seen.{names_of};
 ghost use Rattle.dory_server.specs.Line.{server_line_of};
-ghost use Rattle.dory_server.specs.Opening.{EndsBound, OpensBy, SaysReady, Wrote, fault_of};
+ghost use Rattle.dory_server.specs.Opening.{EndsBound, OpensBy, SaysReady, Tried, Wrote, fault_of};
 ghost use Rattle.dory_server.specs.Served.{Served, ServedThen};
 
 use crate::end::ServerEnd;
@@ -118,6 +118,8 @@ pub fn serve_seats<R: Threads + Wait + Sync, M: PlaceMaker, T: ThreadMaker, B: B
     ensures opens { OpensBy (fault_of (server_line_of (map string_bytes words.now))) result }
     ensures wrote { Wrote (server_line_of (map string_bytes words.now)) (B.bound binder.new) (O.written out.old) (O.written out.new) result }
     ensures served { Served (record { tell = record { left = λ s. B.Door.From.left s; given = λ s. B.Door.From.given s; written = λ o. B.Door.To.written o }; given = λ p. B.Door.given p; faults = λ p. B.Door.faults p }) (server_line_of (map string_bytes words.now)) sessions result }
+    // Before anything is written as many threads were made at once as the seats need beside the one that there is.
+    ensures tried { Tried (server_line_of (map string_bytes words.now)) (T.made threads.new) result }
     ensures place_refused { HasCause (M.faults places.old) (M.faults places.new) (result ≡ ServerEnd.PlaceRefused) }
     ensures no_threads { HasCause (T.faults threads.old) (T.faults threads.new) (result ≡ ServerEnd.NoThreads) }
     ensures bind_fault { HasCause (B.faults binder.old) (B.faults binder.new) (result ≡ ServerEnd.BindFault) }
