@@ -3,7 +3,8 @@ ghost use Rattle.std.specs.Prelude.{◌≡◌, ℕ, IfOk, IsErr, IsOk, IsTrue};
 ghost use Rattle.dory_io.specs.Causes.{HasCause, is_next_listed};
 
 use dory_io::{Failed, Fails};
-use std::sync::{Mutex, Wait};
+use std::sync::Wait;
+use std::sync::atomic::{AtomicBool, Ordering};
 use std::thread;
 use std::thread::Threads;
 
@@ -15,27 +16,36 @@ pub trait ThreadMaker {
     ghost faults: { Self → ℕ };
 
     /// Makes so many threads, all at once, and lets them end.
-    fn try_threads<R: Threads + Wait + Sync>(&mut self, rt: &R, many: u32) -> Result<(), Failed>
+    fn try_threads<R: Threads + Wait>(&mut self, rt: &R, many: u32) -> Result<(), Failed>
         ensures made { IfOk result (λ _. made self.new ≡ many) }
         ensures cause { HasCause (faults self.old) (faults self.new) (IsErr result) };
 }
 
+/// Waits until the flag is set.
+fn wait_for(flag: &AtomicBool) {
+    for _ in 0..u64::MAX {
+        if flag.load(Ordering::SeqCst) {
+            return;
+        }
+        thread::yield_now();
+    }
+}
+
 /// Whether so many threads run at once beside this one. Each is made, and waits until all are.
-fn all_start<R: Threads + Wait + Sync>(rt: &R, many: u32) -> bool
+fn all_start<R: Threads + Wait>(rt: &R, many: u32) -> bool
     ensures { many ≡ 0 → IsTrue result }
 {
     if many == 0 {
         return true;
     }
-    let gate = Mutex::new(());
-    let gate = &gate;
+    let tried = AtomicBool::new(false);
+    let tried = &tried;
     thread::scope(thread::scope_env(), rt, move |scope| -> bool {
-        let shut = gate.lock(rt);
         let mut all = true;
         for _ in 0..many {
-            all = scope.spawn(move || drop(gate.lock(rt))).is_ok() && all;
+            all = scope.spawn(move || wait_for(tried)).is_ok() && all;
         }
-        drop(shut);
+        tried.store(true, Ordering::SeqCst);
         all
     })
 }
@@ -60,7 +70,7 @@ impl ThreadMaker for SystemThreads {
 
     ghost faults = { λ t. t.faults };
 
-    fn try_threads<R: Threads + Wait + Sync>(&mut self, rt: &R, many: u32) -> Result<(), Failed>
+    fn try_threads<R: Threads + Wait>(&mut self, rt: &R, many: u32) -> Result<(), Failed>
         ensures made { IfOk result (λ _. self.new.made ≡ many) }
         ensures cause { HasCause self.old.faults self.new.faults (IsErr result) }
         // Where none is wanted it is no fault that none can be made.
@@ -100,7 +110,7 @@ impl ThreadMaker for FailingThreads {
 
     ghost faults = { λ t. t.fails.faults };
 
-    fn try_threads<R: Threads + Wait + Sync>(&mut self, rt: &R, many: u32) -> Result<(), Failed>
+    fn try_threads<R: Threads + Wait>(&mut self, rt: &R, many: u32) -> Result<(), Failed>
         ensures made { IfOk result (λ _. self.new.inner.made ≡ many) }
         ensures cause { HasCause self.old.fails.faults self.new.fails.faults (IsErr result) }
         ensures listed { IsTrue (is_next_listed self.old.fails) → IsErr result }
