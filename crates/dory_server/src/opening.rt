@@ -1,8 +1,7 @@
 //! A server opens: its words are read, its domain is opened, threads are tried, and its address is bound.
-ghost use Rattle.std.specs.Prelude.{◌≡◌, ◌-◌, ◌⊎◌, All, IfErr, IfOk, None, Ok, length, map, string_bytes, IsErr, IsErrOf};
+ghost use Rattle.std.specs.Prelude.{◌≡◌, IfErr, IfOk, None, Ok, map, string_bytes, IsErrOf};
 ghost use Rattle.dory_io.specs.Causes.{HasCause};
 ghost use Rattle.dory_domain.specs.Setup.{setup_fault};
-ghost use Rattle.dory_shared.specs.Opening.{AreOpened};
 ghost use Rattle.dory_server.specs.Line.{server_line_of};
 ghost use Rattle.dory_server.specs.Opening.{EndsUnbound, EndsUnopened, IsOpen, OpensBy, fault_of};
 
@@ -34,44 +33,6 @@ fn read_line(alloc: Global, words: &[String]) -> Result<ServerLine, ServerEnd>
     }
 }
 
-/// The folders that a line without a fault names, with no update, and as many seats at them as it says.
-fn begin<'a, R: Wait, M: PlaceMaker>(
-    rt: &'a R,
-    alloc: Global,
-    line: &ServerLine,
-    places: &mut M,
-) -> Result<(Opened<'a, R>, Vec<Seat>), ServerEnd>
-    requires { setup_fault line.now.config.folders line.now.config.seats ≡ None }
-    ensures opened { IfOk result (λ t. AreOpened line.now.config.role line.now.config.folders t.0) }
-    ensures seats { IfOk result (λ t. All (λ s. s ≡ t.0) t.1.items) }
-    ensures many { IfOk result (λ t. length t.1.items ≡ line.now.config.seats) }
-    ensures only { IfErr result (λ end. (end ≡ ServerEnd.PlaceRefused) ⊎ (end ≡ ServerEnd.NoMemory)) }
-    ensures cause { HasCause (M.faults places.old) (M.faults places.new) (IsErrOf result ServerEnd.PlaceRefused) }
-{
-    match open_domain(rt, alloc, &line.config, places) {
-        Ok(opened) => Ok(opened),
-        Err(OpenError::BadConfig(_)) => unreachable!(),
-        Err(OpenError::PlaceRefused) => Err(ServerEnd::PlaceRefused),
-        Err(OpenError::NoMemory) => Err(ServerEnd::NoMemory),
-    }
-}
-
-/// Tries as many threads as so many seats need beside the one that there is.
-fn try_threads<R: Threads + Wait + Sync, T: ThreadMaker>(
-    rt: &R,
-    threads: &mut T,
-    seats: u32,
-) -> Result<(), ServerEnd>
-    ensures made { IfOk result (λ _. T.made threads.new ≡ seats - 1) }
-    ensures only { IfErr result (λ end. end ≡ ServerEnd.NoThreads) }
-    ensures cause { HasCause (T.faults threads.old) (T.faults threads.new) (IsErrOf result ServerEnd.NoThreads) }
-{
-    match threads.try_threads(rt, seats.saturating_sub(1)) {
-        Ok(()) => Ok(()),
-        Err(Failed) => Err(ServerEnd::NoThreads),
-    }
-}
-
 /// Opens a server by its words: its folders, its seats, and the address that was bound. Nothing is written, and where it
 /// refuses, what was opened is closed.
 pub fn server_open<'a, R: Threads + Wait + Sync, M: PlaceMaker, T: ThreadMaker, B: Binder>(
@@ -91,8 +52,17 @@ pub fn server_open<'a, R: Threads + Wait + Sync, M: PlaceMaker, T: ThreadMaker, 
     ensures bind_fault { HasCause (B.faults binder.old) (B.faults binder.new) (IsErrOf result ServerEnd.BindFault) }
 {
     let line = read_line(alloc, words)?;
-    let (opened, seats) = begin(rt, alloc, &line, places)?;
-    try_threads(rt, threads, line.config.seats)?;
+    let (opened, seats) = match open_domain(rt, alloc, &line.config, places) {
+        Ok(opened) => opened,
+        Err(OpenError::BadConfig(_)) => unreachable!(),
+        Err(OpenError::PlaceRefused) => return Err(ServerEnd::PlaceRefused),
+        Err(OpenError::NoMemory) => return Err(ServerEnd::NoMemory),
+    };
+    // As many threads as the seats need beside the one that there is.
+    match threads.try_threads(rt, line.config.seats.saturating_sub(1)) {
+        Ok(()) => {}
+        Err(Failed) => return Err(ServerEnd::NoThreads),
+    }
     match binder.bind(&line.address) {
         Ok(bound) => Ok((opened, seats, bound)),
         Err(Failed) => Err(ServerEnd::BindFault),
