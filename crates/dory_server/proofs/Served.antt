@@ -43,7 +43,7 @@ served_from {D} {Door} counting seat_of seen seats before after asked end same a
   map (shown seat_of) before,
   map (shown seat_of) after,
   record {
-    many = length-map (shown seat_of) before ∙ (sym (length-map (seat_in seat_of) before) ∙ ap length are);
+    number = length-map (shown seat_of) before ∙ (sym (length-map (seat_in seat_of) before) ∙ ap length are);
     seats = same_seats seat_of seen before (subst (All (λ s. s ≡ seen)) (sym are) same);
     served = zipped (shown seat_of) (IsLaneServed IsAnswered (showing counting) asked) before after long (λ i d h. let e = each i d h in record { served = e.served; cause = e.cause });
     ended = ended ∙ sym (ap (λ b. if b then AcceptFault else Sessions) (some_fault seat_of after));

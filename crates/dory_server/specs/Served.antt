@@ -29,7 +29,7 @@ showing counting =
 -- one after another through its seat, as many as were asked for, or fewer where the port failed; and the end is a fault exactly
 -- where one of the lanes ended so.
 pub record AreServed {Door From To : Type 0} (counting : Counting Door From To) (seen : List Seen) (many : ℕ) (asked : Option ℕ) (end : ServeEnd) (before after : List (Lane (List Seen) Door)) : Type 0 where
-  pub many : length before ≡ many
+  pub number : length before ≡ many
   pub seats : All (λ (l : Lane (List Seen) Door). l.answers ≡ seen) before
   pub served : AllZip (IsLaneServed IsAnswered (showing counting) asked) before after
   pub ended : end ≡ end_of after
