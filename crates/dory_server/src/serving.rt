@@ -78,7 +78,7 @@ fn serve_at<'a, J: Names + Send + Sync, R: Threads + Wait + Sync, B: Binder, O: 
     requires opened { names_of opened ≡ J.names }
     requires seats { All (λ s. s ≡ opened) seats.items }
     ensures ends { EndsBound bound (O.written out.old) (O.written out.new) result }
-    ensures served { ServedThen (record { tell = record { left = λ s. B.Door.From.left s; given = λ s. B.Door.From.given s; written = λ o. B.Door.To.written o }; given = λ p. B.Door.given p; faults = λ p. B.Door.faults p }) opened (length seats.items) sessions result }
+    ensures served { ServedThen (record { tell = record { left = λ s. B.Door.From.left s; given = λ s. B.Door.From.given s; written = λ o. B.Door.To.written o }; given = λ p. B.Door.given p; faults = λ p. B.Door.faults p }) opened.entry (length seats.items) sessions result }
     ensures bound { B.bound binder.new ≡ B.bound binder.old }
     ensures bind_fault { HasCause (B.faults binder.old) (B.faults binder.new) (result ≡ ServerEnd.BindFault) }
     ensures output_fault { HasCause (O.faults out.old) (O.faults out.new) (result ≡ ServerEnd.OutputFault) }
