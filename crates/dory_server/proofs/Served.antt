@@ -1,6 +1,7 @@
 -- Lanes whose seats are at a domain, as lanes of what their seats have seen.
-use Rattle.std.proofs.Common.{◌≡◌, ◌<◌, ℕ, suc, ◌||◌, List, [], ◌∷◌, All, map, length, slice_index_or, Option, if◌then◌else◌, refl, sym, subst, ap, ◌∙◌, length-map, arith}
+use Rattle.std.proofs.Common.{◌≡◌, ◌<◌, ℕ, suc, ◌||◌, List, [], ◌∷◌, All, map, length, slice_index_or, Option, if◌then◌else◌, refl, sym, subst, ap, ◌∙◌, ◌++◌, arith}
 use Rattle.std.specs.List.{AllZip, list_any}
+use Rattle.std.proofs.lemmas.List.{length-map}
 use Rattle.std.proofs.lemmas.List.Elements.{All-cons, All-nil, All-tail}
 use Rattle.dory_net.specs.declared.serving.ServeEnd.{ServeEnd}
 use Rattle.dory_net.specs.declared.serving.ServeEnd.TheVariants.{Sessions, AcceptFault}
@@ -43,9 +44,18 @@ served_from {D} {Door} counting seat_of seen seats before after asked end same a
   map (shown seat_of) before,
   map (shown seat_of) after,
   record {
-    number = length-map (shown seat_of) before ∙ (sym (length-map (seat_in seat_of) before) ∙ ap length are);
+    number = length-map before (shown seat_of) ∙ (sym (length-map before (seat_in seat_of)) ∙ ap length are);
     seats = same_seats seat_of seen before (subst (All (λ s. s ≡ seen)) (sym are) same);
     served = zipped (shown seat_of) (IsLaneServed IsAnswered (showing counting) asked) before after long (λ i d h. let e = each i d h in record { served = e.served; cause = e.cause });
     ended = ended ∙ sym (ap (λ b. if b then AcceptFault else Sessions) (some_fault seat_of after));
   },
 )
+
+one_behind : {A B : Type 0} (f : A → B) (xs : List A) (x : A) (later : List B) → map f (xs ++ x ∷ []) ++ later ≡ map f xs ++ f x ∷ later
+one_behind f [] x later = refl
+one_behind f (a ∷ xs) x later = ap (λ l. f a ∷ l) (one_behind f xs x later)
+
+-- one lane more for one seat less
+pub one_lane_more : {A B : Type 0} (f : A → B) (xs : List A) (x : A) (ys : List A) (seat : B) (rest later all : List B) → ys ≡ xs ++ x ∷ [] → f x ≡ seat → rest ≡ seat ∷ later → map f xs ++ rest ≡ all → map f ys ++ later ≡ all
+one_lane_more f xs x ys seat rest later all is at front whole =
+    ap (λ l. map f l ++ later) is ∙ (one_behind f xs x later ∙ (ap (λ s. map f xs ++ s ∷ later) at ∙ (ap (λ r. map f xs ++ r) (sym front) ∙ whole)))

@@ -41,8 +41,9 @@ fn lanes_of<'d, 'a, J: Names, R: Threads + Wait + Sync, B: Binder>(
         };
         let seat = NamedSeat::new(seat);
         let lane = Lane::new(AtSeat { rt, domain, seat }, port);
-        if lanes.push(lane).is_err() {
-            return Err(ServerEnd::NoMemory);
+        match lanes.push(lane) {
+            Ok(()) => {}
+            Err(_) => return Err(ServerEnd::NoMemory),
         }
     }
     Ok(lanes)
