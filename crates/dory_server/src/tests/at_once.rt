@@ -62,13 +62,14 @@ impl<'a> Sink for Lent<'a> {
     ghost faults = { λ s. s.fails.faults };
 
     fn write(&mut self, piece: &[u8]) -> Result<usize, Failed> {
-        if !self.signs.may_go() {
+        let signs = self.signs;
+        if !signs.may_go() {
             self.fails.count();
             return Err(Failed);
         }
         match self.sink.write(piece) {
             Ok(n) => {
-                self.signs.is_gone();
+                signs.is_gone();
                 Ok(n)
             }
             Err(Failed) => {
