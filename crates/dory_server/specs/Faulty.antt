@@ -1,7 +1,6 @@
 -- What is wrong with which word, where the words of a server's command line are no configuration.
-use Rattle.std.specs.Prelude.{ℕ, ◌==◌, ◌||◌, not, List, drop, codes, slice_get, is_some, is_none, Option, Some, None, if◌then◌else◌}
+use Rattle.std.specs.Prelude.{ℕ, ◌==◌, ◌||◌, List, drop, codes, slice_get, is_some, is_none, Option, Some, None, if◌then◌else◌}
 use Rattle.dory_io.specs.Address.{between_colons, number_at}
-use Rattle.dory_domain.specs.declared.config.ConfigFault.{ConfigFault}
 use Rattle.dory_domain.specs.declared.config.ConfigFault.TheVariants as config
 use Rattle.dory_server.specs.declared.end.ServerEnd.{ServerEnd}
 use Rattle.dory_server.specs.declared.end.ServerEnd.TheVariants.{Usage, BadConfig, PlaceRefused, NoThreads, BindFault, OutputFault, Sessions, AcceptFault, NoMemory}

@@ -1,5 +1,5 @@
 -- What a server has served when it ends.
-use Rattle.std.specs.Prelude.{ℕ, ◌≡◌, ⊤, All, List, length, Option, Some, None, Result, Ok}
+use Rattle.std.specs.Prelude.{ℕ, ◌≡◌, ⊤, All, List, length, Option, Result, Ok}
 use Rattle.std.specs.List.{AllZip}
 use Rattle.dory_net.specs.Serving.{Telling}
 use Rattle.dory_net.specs.declared.serving.ServeEnd.{ServeEnd}

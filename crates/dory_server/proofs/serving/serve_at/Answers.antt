@@ -11,7 +11,7 @@ returns-in-Sessions-clause-served g c =
       given = λ p. g.B.Door.Port.given p;
       faults = λ p. g.B.Door.Port.faults p;
     } in
-    served_from counting (λ a. a.seat) c.args.opened c.args.seats.items c.as_mut_slice.result.now _ c.args.sessions port.Sessions c.requires.seats (search rules) c.in-Sessions.ensures.same c.in-Sessions.ensures.served c.in-Sessions.ensures.ended
+    served_from counting (λ a. a.seat) c.args.opened c.args.seats.items c.as_mut_slice.result.now c.serve_lanes-end.new.lanes c.args.sessions port.Sessions c.requires.seats (search rules) c.in-Sessions.ensures.same c.in-Sessions.ensures.served c.in-Sessions.ensures.ended
 
 pub returns-in-AcceptFault-clause-served : goal.returns-in-AcceptFault-clause-served
 returns-in-AcceptFault-clause-served g c =
@@ -20,4 +20,4 @@ returns-in-AcceptFault-clause-served g c =
       given = λ p. g.B.Door.Port.given p;
       faults = λ p. g.B.Door.Port.faults p;
     } in
-    served_from counting (λ a. a.seat) c.args.opened c.args.seats.items c.as_mut_slice.result.now _ c.args.sessions port.AcceptFault c.requires.seats (search rules) c.in-AcceptFault.ensures.same c.in-AcceptFault.ensures.served c.in-AcceptFault.ensures.ended
+    served_from counting (λ a. a.seat) c.args.opened c.args.seats.items c.as_mut_slice.result.now c.serve_lanes-end.new.lanes c.args.sessions port.AcceptFault c.requires.seats (search rules) c.in-AcceptFault.ensures.same c.in-AcceptFault.ensures.served c.in-AcceptFault.ensures.ended

@@ -1,4 +1,4 @@
-use Rattle.dory_server.proofs.Opened.{wrote_nothing}
+use Rattle.dory_server.proofs.Unopened.{wrote_nothing}
 use Rattle.dory_server.proofs.Written.{appends_nothing}
 use Rattle.dory_server.proofs.serving.serve_seats.Goals as goal
 
