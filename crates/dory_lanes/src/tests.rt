@@ -1,9 +1,9 @@
-//! Two lanes at once, in memory, each with a domain and a port of its own.
+//! Two lanes at once, in memory, each with a domain and a port of its own; and threads that are tried.
 
-use crate::{Lane, serve_lanes};
+use crate::{FailingThreads, Lane, SystemThreads, ThreadMaker, serve_lanes};
 use dory_base::{FolderId, NoMemory, Shape, Side};
 use dory_domain::{DomainCore, FolderConfig};
-use dory_io::{MemPort, VecSink, VecSource};
+use dory_io::{Failed, MemPort, VecSink, VecSource};
 use dory_kernel::{RowKernel, plain_parity};
 use dory_net::ServeEnd;
 use std::alloc::{AllocError, Global};
@@ -98,5 +98,19 @@ fn lanes_serve_for_good_until_their_ports_give_no_more(rt: HostRuntime) -> Resul
     assert_eq!(rt; end, ServeEnd::AcceptFault);
     assert_eq!(rt; left(&lanes[0]), (Some(0), ServeEnd::AcceptFault));
     assert_eq!(rt; left(&lanes[1]), (Some(1), ServeEnd::AcceptFault));
+    Ok(())
+}
+
+#[test]
+fn threads_are_tried_at_once_and_counted_where_they_fail(rt: HostRuntime) -> Result<(), Fail> {
+    let alloc = rt.alloc();
+    let mut system = SystemThreads::new();
+    for many in [0, 1, 31] {
+        assert_eq!(rt; system.try_threads(&rt, many), Ok(()));
+    }
+    let mut failing = FailingThreads::new(Vec::from_slice(alloc, &[2])?);
+    assert_eq!(rt; failing.try_threads(&rt, 3), Ok(()));
+    assert_eq!(rt; failing.try_threads(&rt, 3), Err(Failed));
+    assert_eq!(rt; failing.try_threads(&rt, 3), Ok(()));
     Ok(())
 }

@@ -1,5 +1,5 @@
 -- Folders are read word by word.
-use Rattle.std.proofs.Common.{◌≡◌, ◌≤◌, ◌-◌, ℕ, List, [], ◌∷◌, ◌++◌, Result, Ok, Err, String, Global, map, drop, take, length, string_bytes, refl, sym, ap, ◌∙◌, take_all, length-drop, arith}
+use Rattle.std.proofs.Common.{◌≡◌, ◌≤◌, ◌-◌, List, [], ◌∷◌, ◌++◌, Result, Ok, Err, String, Global, map, drop, take, length, string_bytes, refl, sym, ap, ◌∙◌, take_all, length-drop, arith}
 use Rattle.std.proofs.lemmas.List.{drop-map}
 use Rattle.dory_domain.specs.declared.config.FolderConfig.{FolderConfig}
 use Rattle.dory_server.specs.declared.line.ServerWords.{ServerWords}

@@ -1,3 +1,4 @@
 pub mod FolderWords
 pub mod Written
 pub mod Served
+pub mod Unopened

@@ -1,10 +1,9 @@
 -- What is wrong with which word, where the words of a server's command line are no configuration.
-use Rattle.std.specs.Prelude.{ℕ, ◌==◌, ◌||◌, not, List, drop, codes, slice_get, is_some, is_none, Option, Some, None, if◌then◌else◌}
+use Rattle.std.specs.Prelude.{ℕ, ◌==◌, ◌||◌, List, drop, codes, slice_get, is_some, is_none, Option, Some, None, if◌then◌else◌}
 use Rattle.dory_io.specs.Address.{between_colons, number_at}
-use Rattle.dory_domain.specs.declared.config.ConfigFault.{ConfigFault}
 use Rattle.dory_domain.specs.declared.config.ConfigFault.TheVariants as config
 use Rattle.dory_server.specs.declared.end.ServerEnd.{ServerEnd}
-use Rattle.dory_server.specs.declared.end.ServerEnd.TheVariants.{Usage, BadConfig, BindFault, OutputFault, Sessions, AcceptFault, NoMemory}
+use Rattle.dory_server.specs.declared.end.ServerEnd.TheVariants.{Usage, BadConfig, PlaceRefused, NoThreads, BindFault, OutputFault, Sessions, AcceptFault, NoMemory}
 use Rattle.dory_server.specs.declared.faulty.WordFault.{WordFault}
 use Rattle.dory_server.specs.declared.faulty.WordFault.TheVariants as fault
 
@@ -37,6 +36,8 @@ word_fault_of words (BadConfig (config.Folders n)) = Some fault.Folders
 word_fault_of words (BadConfig (config.FolderTwice place)) = Some fault.Twice
 word_fault_of words (BadConfig (config.Retained place got)) = Some fault.Retained
 word_fault_of words (BadConfig (config.Seats n)) = Some fault.Seats
+word_fault_of words PlaceRefused = None
+word_fault_of words NoThreads = None
 word_fault_of words BindFault = None
 word_fault_of words OutputFault = None
 word_fault_of words Sessions = None
@@ -54,6 +55,8 @@ wrong_word_of words (BadConfig (config.Folders n)) = folder_word words 8
 wrong_word_of words (BadConfig (config.FolderTwice place)) = folder_word words place
 wrong_word_of words (BadConfig (config.Retained place got)) = folder_word words place
 wrong_word_of words (BadConfig (config.Seats n)) = slice_get words 2
+wrong_word_of words PlaceRefused = None
+wrong_word_of words NoThreads = None
 wrong_word_of words BindFault = None
 wrong_word_of words OutputFault = None
 wrong_word_of words Sessions = None

@@ -112,7 +112,9 @@ pub fn word_fault(words: &[String], end: &ServerEnd) -> Option<WordFault>
         ServerEnd::BadConfig(ConfigFault::FolderTwice { .. }) => Some(WordFault::Twice),
         ServerEnd::BadConfig(ConfigFault::Retained { .. }) => Some(WordFault::Retained),
         ServerEnd::BadConfig(ConfigFault::Seats { .. }) => Some(WordFault::Seats),
-        ServerEnd::BindFault
+        ServerEnd::PlaceRefused
+        | ServerEnd::NoThreads
+        | ServerEnd::BindFault
         | ServerEnd::OutputFault
         | ServerEnd::Sessions
         | ServerEnd::AcceptFault
@@ -137,7 +139,9 @@ pub fn wrong_word<'a>(words: &'a [String], end: &ServerEnd) -> Option<&'a str>
         ServerEnd::BadConfig(ConfigFault::FolderTwice { place }) => folder(words, place),
         ServerEnd::BadConfig(ConfigFault::Retained { place, .. }) => folder(words, place),
         ServerEnd::BadConfig(ConfigFault::Seats { .. }) => word(words, 2),
-        ServerEnd::BindFault
+        ServerEnd::PlaceRefused
+        | ServerEnd::NoThreads
+        | ServerEnd::BindFault
         | ServerEnd::OutputFault
         | ServerEnd::Sessions
         | ServerEnd::AcceptFault

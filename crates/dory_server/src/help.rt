@@ -8,14 +8,14 @@ usage: dory_server ROLE ADDRESS SEATS FOLDER..
 
 ROLE     lead or follow: a group has one server of each
 ADDRESS  IPv4 a.b.c.d:port, as 127.0.0.1:7001; port 0 is any free one
-SEATS    1 to 32; it serves one connection after another all the same
+SEATS    1 to 32: as many connections are served at once, and others wait
 FOLDER   ID:DEPTH:PROBES or ID:DEPTH:PROBES:RETAINED, 1 to 8 of them, the same
          at both servers: ID a number, depth 8 to 11, probes 1 to 8, and how
          many versions a search may ask for, 1 to 256, 64 where not given
 
 Numbers are decimal, without a leading zero.
 
-example: dory_server lead 127.0.0.1:7001 1 1:11:4
+example: dory_server lead 127.0.0.1:7001 4 1:11:4
 
 It writes `ready ADDRESS` on standard output once it can be reached, and then
 serves until it is stopped. It keeps everything in memory: started anew, it is
@@ -27,8 +27,9 @@ Statuses, each with a line on standard error after `dory_server: `
   3   badconfig: too many folders, one of them twice, versions or seats out of
       range; a second line says which word
   4   bindfault, acceptfault: ADDRESS can't be had, or connections end
+  5   placerefused: a seat got no place at a folder
   9   outputfault: the line couldn't be written
-  12  nomemory
+  12  nomemory, nothreads: there is no room for it, or for a thread to each seat
 
   --help     writes this text
   --version  writes the version

@@ -1,4 +1,4 @@
-//! The program `dory_server`: one domain's server, which serves one connection after another.
+//! The program `dory_server`: one domain's server, which serves as many connections at once as it has seats.
 #![tactic(auto)]
 
 mod end;
@@ -6,22 +6,26 @@ mod faulty;
 mod help;
 mod line;
 mod opening;
+mod serving;
 #[cfg(test)]
 mod tests;
 
 use crate::end::ServerEnd;
 use crate::faulty::{word_fault, wrong_word};
 use crate::help::{HELP, VERSION};
-use crate::opening::serve_in_turn;
+use crate::serving::serve_seats;
 use dory_files::occupied;
 use dory_io::write_all;
 use dory_kernel::{RowKernel, lane_parity};
+use dory_lanes::SystemThreads;
 use dory_net::{StdSink, TcpBinder, typed_words};
+use dory_shelf::Places;
 use std::io;
 use std::io::{ErrorKind, Write};
 use std::net::{Net, TcpListener, TcpStream};
 use std::process::ExitCode;
 use std::sync::Wait;
+use std::thread::Threads;
 
 /// The text that a lone `--help` or `--version` asks for.
 fn asked_text(words: &[String]) -> Option<&'static str> {
@@ -44,7 +48,7 @@ fn words_end(error: &io::Error) -> ServerEnd {
 /// The end of the whole program.
 fn end_of<R, W>(rt: &R, words: &[String], kernel: RowKernel, stdout: W) -> ServerEnd
 where
-    R: AllocGlobal + Wait + Net<Listener = TcpListener, Stream = TcpStream>,
+    R: AllocGlobal + Threads + Wait + Sync + Net<Listener = TcpListener, Stream = TcpStream>,
     W: Write + Drop,
 {
     let alloc = rt.alloc();
@@ -55,8 +59,20 @@ where
             Err(_) => ServerEnd::OutputFault,
         };
     }
+    let mut places = Places::new();
+    let mut threads = SystemThreads::new();
     let mut binder = TcpBinder::new(rt, alloc);
-    serve_in_turn(rt, alloc, words, kernel, &mut binder, &mut out, None)
+    serve_seats(
+        rt,
+        alloc,
+        words,
+        kernel,
+        &mut places,
+        &mut threads,
+        &mut binder,
+        &mut out,
+        None,
+    )
 }
 
 /// Tells an end other than `Sessions`, and what is wrong with which word where the words are to blame.
